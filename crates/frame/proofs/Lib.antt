@@ -1,5 +1,1 @@
-pub mod Rows
-pub mod Whole
-pub mod Back
-pub mod Tables
 pub mod Read

@@ -19,17 +19,17 @@ use Rattle.field.specs.declared.Field.{Field}
 use Rattle.field.specs.Layouts.{holds, Passes, Breaks, ranged}
 use Rattle.field.proofs.Faults.{same-passes}
 use Rattle.field.proofs.Verdict.{never-both}
-use Rattle.frame.specs.declared.format.Header.{Header}
+use Rattle.layout.specs.declared.format.Header.{Header}
 use Rattle.frame.specs.declared.message.Parts.{Parts}
 use Rattle.frame.specs.declared.message.Message.{Message}
-use Rattle.frame.specs.Values.{Part, Value, size}
-use Rattle.frame.specs.Numbers.{Layout, width, laid, rows-in, reading, writing}
-use Rattle.frame.specs.Format.{rules, header-fields, accepted-view-limits, content-limits, part-fields}
-use Rattle.frame.specs.Frames.{frame, Lawful, header-in, content-in, part-in, value-in, end-field, byte-fields}
+use Rattle.layout.specs.Values.{Part, Value, size}
+use Rattle.layout.specs.Numbers.{Layout, width, laid, rows-in, reading, writing}
+use Rattle.layout.specs.Format.{rules, header-fields, accepted-view-limits, content-limits, part-fields}
+use Rattle.layout.specs.Frames.{frame, Lawful, header-in, content-in, part-in, value-in, end-field, byte-fields}
 use Rattle.frame.specs.Messages.{part-of, content-of, value, Parts-in, Parts-of, parts, Reads, Answers, Yields, One-frame, Ruled, Within}
-use Rattle.frame.proofs.Rows.{Bytes, drop-bytes, Exact, exact-read, exact-write, length-rows, laid-rows, rows-laid, rows-fit}
-use Rattle.frame.proofs.Whole.{in-limits, whole-part, whole, lawful}
-use Rattle.frame.proofs.Back.{value-back, frame-passes}
+use Rattle.layout.proofs.Rows.{Bytes, drop-bytes, Exact, exact-read, exact-write, length-rows, laid-rows, rows-laid, rows-fit}
+use Rattle.layout.proofs.Whole.{in-limits, whole-part, whole, lawful}
+use Rattle.layout.proofs.Back.{value-back, frame-passes}
 
 -- whether the flag announces a content
 pub announced : (b : List ℕ) → getD b 12 0 ≡ 1 → part-in b ≡ Some (content-in b)

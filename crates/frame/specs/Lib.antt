@@ -1,5 +1,2 @@
-pub mod Values
-pub mod Numbers
-pub mod Format
-pub mod Frames
 pub mod Messages
+pub mod Carried

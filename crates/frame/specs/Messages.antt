@@ -12,14 +12,14 @@ use Rattle.values.specs.Numbers.{vote-number, outcome-number}
 use Rattle.values.specs.declared.decision.Proposal.{Proposal}
 use Rattle.values.specs.declared.refusal.Refusal.{Refusal}
 use Rattle.field.specs.Layouts.{Breaks}
-use Rattle.frame.specs.declared.format.Header.{Header}
+use Rattle.layout.specs.declared.format.Header.{Header}
 use Rattle.frame.specs.declared.message.Parts.{Parts}
 use Rattle.frame.specs.declared.message.Message.{Message}
 use Rattle.frame.specs.declared.message.Message.the-variants.{Prepare, Voted, Accept, Accepted, Decide, ChangeView, Report}
-use Rattle.frame.specs.Values.{Part, Value}
-use Rattle.frame.specs.Numbers.{number, rows-in, reading, writing}
-use Rattle.frame.specs.Format.{rules, accepted-view-limits, content-limits}
-use Rattle.frame.specs.Frames.{frame, Lawful, byte-fields}
+use Rattle.layout.specs.Values.{Part, Value}
+use Rattle.layout.specs.Numbers.{number, rows-in, reading, writing}
+use Rattle.layout.specs.Format.{rules, accepted-view-limits, content-limits}
+use Rattle.layout.specs.Frames.{frame, Lawful, byte-fields}
 
 -- the content that the parts of a frame hold
 abbrev pub part-of : Parts → Part

@@ -1,7 +1,6 @@
-// The frame format: a message has exactly one frame, and no other bytes are read as one.
+// Frames: a message has exactly one frame, and no other bytes are read as one.
 
-pub mod fields;
-pub mod format;
+pub mod carried;
+pub mod encoded;
 pub mod message;
 pub mod reader;
-pub mod row;

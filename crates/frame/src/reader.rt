@@ -1,7 +1,7 @@
 // Reading a frame.
 
 ghost use mathlib.Core.Path.{_≡_};
-ghost use Prim.Native.Nat.{ℕ, _+_, _*_, _≤_, _<_};
+ghost use Prim.Native.Nat.{ℕ, _+_, _*_, _≤_};
 ghost use mathlib.Core.List.{List, [], _∷_, _++_};
 ghost use lib.ListN.{length, getD, take, drop};
 ghost use lib.Dec.{eqb};
@@ -9,28 +9,28 @@ ghost use Rattle.std.specs.Options.{isSome};
 ghost use Rattle.std.specs.declared.option.Option.the-variants.{Some};
 ghost use Rattle.values.specs.Numbers.{vote-number, outcome-number};
 ghost use Rattle.field.specs.Layouts.{Checked, Checking};
-ghost use Rattle.frame.specs.Values.{flag, size};
-ghost use Rattle.frame.specs.Numbers.{reading, writing, rows-in};
-ghost use Rattle.frame.specs.Format.{header-fields, body-fields, part-fields};
-ghost use Rattle.frame.specs.Frames.{header-in, content-in, part-in, mark-fields, end-field};
+ghost use Rattle.layout.specs.Values.{flag, size};
+ghost use Rattle.layout.specs.Numbers.{reading, writing, rows-in};
+ghost use Rattle.layout.specs.Format.{header-fields, content-fields, part-fields};
+ghost use Rattle.layout.specs.Frames.{header-in, content-in, part-in, mark-fields, end-field};
 ghost use Rattle.frame.specs.Messages.{value, accepted-number, accepted-view, content-of, numbers, Ruled, Parts-in, Parts-of, Reads, Yields, One-frame, stated, parts};
 
 use content::rows::Read;
 use content::rows::Write;
 use field::Field;
 use field::check;
-use crate::format::Header;
-use crate::format::count_fields;
-use crate::format::header_fields;
+use layout::format::Header;
+use layout::format::count_fields;
+use layout::format::header_fields;
 use crate::message::Message;
 use crate::message::Parts;
-use crate::row::ReadRow;
-use crate::row::WriteRow;
-use crate::row::byte_at;
-use crate::row::check_body;
-use crate::row::number_at;
-use crate::row::rows_in;
-use crate::row::tail_at;
+use layout::row::ReadRow;
+use layout::row::WriteRow;
+use layout::row::byte_at;
+use layout::row::check_content;
+use layout::row::number_at;
+use layout::row::rows_in;
+use layout::row::tail_at;
 use values::decision::Outcome;
 use values::decision::Proposal;
 use values::decision::Vote;
@@ -63,7 +63,7 @@ fn header_of(bytes: &[u8]) -> Header
     }
 }
 
-// Checks the rows of a content, at most four of each kind.
+// Checks a content with at most four rows of each kind.
 fn check_rows_at(
     bytes: &[u8],
     reads: usize,
@@ -71,12 +71,12 @@ fn check_rows_at(
     timestamp: Timestamp,
 ) -> Result<(), Refusal>
     requires { ⌜ reads ≤ 4 ⌝ ∗ ⌜ writes ≤ 4 ⌝ }
-    ensures { λ r. ⌜ Checked (length (now (bytes .entry))) (body-fields timestamp (rows-in reading reads (drop 19 (now (bytes .entry)))) (rows-in writing writes (drop (9 * reads) (drop 19 (now (bytes .entry)))))) r ⌝ }
+    ensures { λ r. ⌜ Checked (length (now (bytes .entry))) (content-fields timestamp (rows-in reading reads (drop 19 (now (bytes .entry)))) (rows-in writing writes (drop (9 * reads) (drop 19 (now (bytes .entry)))))) r ⌝ }
 {
     let rows = tail_at(bytes, 19);
     let read_rows: [Read; 4] = rows_in(rows, reads);
     let write_rows: [Write; 4] = rows_in(tail_at(rows, 9 * reads), writes);
-    check_body(
+    check_content(
         timestamp,
         &read_rows[0..reads],
         &write_rows[0..writes],
@@ -85,7 +85,7 @@ fn check_rows_at(
 }
 
 // Checks the content, of which the header says that it follows.
-fn check_content(
+fn check_content_at(
     bytes: &[u8],
     reads: usize,
     writes: usize,
@@ -133,7 +133,7 @@ fn read_content<'a>(bytes: &'a [u8], header: &Header) -> Result<Option<Parts<'a>
     }
     let reads = byte_at(bytes, 17) as usize;
     let writes = byte_at(bytes, 18) as usize;
-    check_content(bytes, reads, writes, header.transaction)?;
+    check_content_at(bytes, reads, writes, header.transaction)?;
     Ok(Some(parts_at(bytes, reads, writes)))
 }
 

@@ -2,9 +2,9 @@ use borrow.Author.Needs.{needs}
 use mathlib.Core.Path.{_≡_, sym, ap, _∙_}
 use Prim.Native.Nat.{ℕ, _+_, _*_}
 use lib.ListN.{getD}
-use Rattle.frame.specs.declared.format.Header.{Header}
-use Rattle.frame.specs.Values.{size}
-use Rattle.frame.specs.Frames.{part-in}
+use Rattle.layout.specs.declared.format.Header.{Header}
+use Rattle.layout.specs.Values.{size}
+use Rattle.layout.specs.Frames.{part-in}
 use Rattle.frame.proofs.Read.{end-is, size-announced, not-announced}
 use Rattle.frame.proofs.reader.end_of.Needs as need
 use Rattle.frame.proofs.reader.end_of.Needs.{then-header-eq1, else-header-eq1}

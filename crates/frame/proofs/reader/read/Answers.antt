@@ -10,14 +10,14 @@ use Rattle.std.specs.declared.option.Option.{Option}
 use Rattle.field.specs.declared.Field.{Field}
 use Rattle.field.specs.Layouts.{Passes}
 use Rattle.field.proofs.Faults.{before, after, pass-both, pass-last, same-breaks, same-passes}
-use Rattle.frame.specs.declared.format.Header.{Header}
+use Rattle.layout.specs.declared.format.Header.{Header}
 use Rattle.frame.specs.declared.message.Parts.{Parts}
-use Rattle.frame.specs.Values.{Value}
-use Rattle.frame.specs.Format.{header-fields, part-fields}
-use Rattle.frame.specs.Frames.{frame, Lawful, header-in, part-in, value-in, mark-fields, end-field, byte-fields}
+use Rattle.layout.specs.Values.{Value}
+use Rattle.layout.specs.Format.{header-fields, part-fields}
+use Rattle.layout.specs.Frames.{frame, Lawful, header-in, part-in, value-in, mark-fields, end-field, byte-fields}
 use Rattle.frame.specs.Messages.{value, stated, Ruled, Parts-of}
-use Rattle.frame.proofs.Rows.{Bytes}
-use Rattle.frame.proofs.Whole.{whole, lawful}
+use Rattle.layout.proofs.Rows.{Bytes}
+use Rattle.layout.proofs.Whole.{whole, lawful}
 use Rattle.frame.proofs.Read.{content-is, told, ruled}
 use Rattle.frame.proofs.reader.read.Needs as need
 

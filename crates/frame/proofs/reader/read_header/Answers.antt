@@ -6,8 +6,8 @@ use lib.ListN.{length, getD}
 use lib.Seq.{getD-drop}
 use Rattle.std.proofs.shelf.Results.{err-from-errBy}
 use Rattle.field.proofs.Faults.{before, after, pass-both, same-breaks, same-passes}
-use Rattle.frame.specs.Format.{header-fields}
-use Rattle.frame.specs.Frames.{header-in, mark-fields}
+use Rattle.layout.specs.Format.{header-fields}
+use Rattle.layout.specs.Frames.{header-in, mark-fields}
 use Rattle.frame.proofs.reader.read_header.Needs as need
 
 pub returns-in-Break-rest : need.returns-in-Break-rest

@@ -1,0 +1,5 @@
+pub mod Rows
+pub mod Tables
+pub mod Whole
+pub mod Back
+pub mod Puts

@@ -1,0 +1,5 @@
+pub mod Values
+pub mod Numbers
+pub mod Format
+pub mod Frames
+pub mod Puts
