@@ -26,24 +26,24 @@ sound-tested = record {
   only = λ b h.
       let p1 = and-parts _ _ h in
       let p2 = and-parts _ _ (p1 .1) in
-      let p3 = and-parts _ _ (p2 .1) in
+      let p3 = and-parts _ _ (p2 .0) in
       let p4 = and-parts _ _ (p3 .1) in
-      let p5 = and-parts _ _ (p4 .1) in
+      let p5 = and-parts _ _ (p2 .1) in
       let p6 = and-parts _ _ (p5 .1) in
       record {
         names = p1 .0;
-        few-reads = leb-true _ _ (p2 .0);
-        few-writes = leb-true _ _ (p3 .0);
-        some = leb-true _ _ (p4 .0);
+        few-reads = leb-true _ _ (p3 .0);
+        few-writes = leb-true _ _ (p4 .0);
+        some = leb-true _ _ (p4 .1);
         reads-apart = differ-apart (read-keys (b .reads)) _ (p5 .0);
         writes-apart = differ-apart (write-keys (b .writes)) _ (p6 .0);
         are-versions = λ i l. and-parts (version (getD (b .reads) i no-read .version)) _ (each-before (b .timestamp) (b .reads) _ i l (p6 .1)) .0;
         are-before = λ i l. and-parts (version (getD (b .reads) i no-read .version)) _ (each-before (b .timestamp) (b .reads) _ i l (p6 .1)) .1;
       };
   every = λ b s.
-      and-from _ _ (s .names) (and-from _ _ (le-leb _ _ (s .few-reads)) (and-from _ _ (le-leb _ _ (s .few-writes)) (and-from _ _ (le-leb _ _ (s .some))
+      and-from _ _ (s .names) (and-from _ _ (and-from _ _ (le-leb _ _ (s .few-reads)) (and-from _ _ (le-leb _ _ (s .few-writes)) (le-leb _ _ (s .some))))
       (and-from _ _ (apart-differ (read-keys (b .reads)) _ (s .reads-apart)) (and-from _ _ (apart-differ (write-keys (b .writes)) _ (s .writes-apart))
-      (before-each (b .timestamp) (b .reads) _ (λ i l. and-from _ _ (s .are-versions i l) (s .are-before i l))))))));
+      (before-each (b .timestamp) (b .reads) _ (λ i l. and-from _ _ (s .are-versions i l) (s .are-before i l))))));
 }
 
 -- arrays that the rows were filled into say the rows

@@ -53,13 +53,18 @@ pub record Body : Type 0 where
 abbrev pub body-of : Timestamp → List Read → List Write → Body
 body-of t rs ws = record { timestamp = t; reads = rs; writes = ws }
 
+-- at most four rows of each kind, and one at least
+abbrev pub few : ℕ → ℕ → Bool
+few r w = leb r 4 && (leb w 4 && leb 1 (r + w))
+
 -- the body is that of a transaction, as one test
 abbrev pub sound : Body → Bool
 sound b =
     named (b .timestamp)
-    && (leb (length (b .reads)) 4 && (leb (length (b .writes)) 4 && (leb 1 (length (b .reads) + length (b .writes))
-    && (differ (read-keys (b .reads)) (length (b .reads)) && (differ (write-keys (b .writes)) (length (b .writes))
-    && reads-before (b .timestamp) (b .reads) (length (b .reads)))))))
+    && (few (length (b .reads)) (length (b .writes))
+    && (differ (read-keys (b .reads)) (length (b .reads))
+    && (differ (write-keys (b .writes)) (length (b .writes))
+    && reads-before (b .timestamp) (b .reads) (length (b .reads)))))
 
 -- no two of the first n are equal
 abbrev pub Apart : (ℕ → ℕ) → ℕ → Type 0

@@ -2,8 +2,7 @@ ghost use mathlib.Core.Path.{_≡_};
 ghost use lib.ListN.{length};
 ghost use Rattle.std.specs.declared.option.Option.the-variants.{Some};
 ghost use Rattle.content.specs.Contents.{body, Made, Told-by-body};
-ghost use Rattle.content.specs.Rules.{Sound-tested, body-of, readable, reads-before, sound};
-ghost use Rattle.values.specs.Times.{named};
+ghost use Rattle.content.specs.Rules.{Sound-tested, body-of, few, reads-before, sound};
 use crate::content::Content;
 use crate::keyed::ReadKeyed;
 use crate::keyed::WriteKeyed;
@@ -13,40 +12,31 @@ use crate::rows::Read;
 use crate::rows::Write;
 use values::timestamp::Timestamp;
 
-// A version, from before the timestamp.
-fn is_readable(timestamp: Timestamp, read: Read) -> bool
-    ensures { λ r. ⌜ r ≡ readable timestamp read ⌝ }
-{
-    read.version.is_version() && read.version.is_before(timestamp)
-}
-
 fn all_readable(timestamp: Timestamp, reads: &[Read]) -> bool
     ensures { λ r. ⌜ r ≡ reads-before timestamp (now (reads .entry)) (length (now (reads .entry))) ⌝ }
 {
     for read in reads {
-        if !is_readable(timestamp, *read) {
+        if !read.is_readable(timestamp) {
             return false;
         }
     }
     true
 }
 
-fn names_transaction(timestamp: Timestamp) -> bool
-    ensures { λ r. ⌜ r ≡ named timestamp ⌝ }
+// At most four rows of each kind, and one at least.
+fn counts_fit(reads: usize, writes: usize) -> bool
+    ensures { λ r. ⌜ r ≡ few reads writes ⌝ }
 {
-    1 <= timestamp.transaction() && timestamp.transaction() <= 32
+    reads <= 4 && writes <= 4 && 1 <= reads + writes
 }
 
 fn is_sound(timestamp: Timestamp, reads: &[Read], writes: &[Write]) -> bool
     ensures { λ r. ⌜ r ≡ sound (body-of timestamp (now (reads .entry)) (now (writes .entry))) ⌝ }
 {
-    names_transaction(timestamp)
-        && reads.len() <= 4
-        && writes.len() <= 4
-        && 1 <= reads.len() + writes.len()
-        && keys_differ(reads)
-        && keys_differ(writes)
-        && all_readable(timestamp, reads)
+    if !timestamp.names_transaction() || !counts_fit(reads.len(), writes.len()) {
+        return false;
+    }
+    keys_differ(reads) && keys_differ(writes) && all_readable(timestamp, reads)
 }
 
 impl Content {

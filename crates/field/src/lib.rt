@@ -7,7 +7,7 @@ ghost use Rattle.field.specs.Laws.{One-verdict};
 use values::refusal::Refusal;
 
 // A field: its place and its width in bytes, and whether its value obeys the field's rule.
-#[derive(Clone, Copy, PartialEq, Eq, Debug)]
+#[derive(Clone, Copy)]
 pub struct Field {
     pub place: usize,
     pub width: usize,

@@ -112,7 +112,7 @@ pub impl Row for Read as ReadRow {
     }
 
     fn is_lawful(&self, timestamp: Timestamp) -> bool {
-        self.version.is_version() && self.version.is_before(timestamp)
+        self.is_readable(timestamp)
     }
 }
 

@@ -6,21 +6,21 @@ use order::TotalOrder;
 use order::greatest;
 
 // A replica's vote on a transaction.
-#[derive(Clone, Copy, PartialEq, Eq, Debug)]
+#[derive(Clone, Copy)]
 pub enum Vote {
     No,
     Yes,
 }
 
 // What becomes of a transaction; an abort comes first in the order of proposals of one view.
-#[derive(Clone, Copy, PartialEq, Eq, PartialOrd, Ord, Debug)]
+#[derive(Clone, Copy, PartialEq, Eq, PartialOrd, Ord)]
 pub enum Outcome {
     Abort,
     Commit,
 }
 
 // An outcome that a coordinator proposed in a view.
-#[derive(Clone, Copy, PartialEq, Eq, PartialOrd, Ord, Debug)]
+#[derive(Clone, Copy, PartialEq, Eq, PartialOrd, Ord)]
 pub struct Proposal {
     pub view: u32,
     pub outcome: Outcome,

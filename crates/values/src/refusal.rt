@@ -1,9 +1,8 @@
 ghost use mathlib.Core.Path.{_≡_};
-ghost use Rattle.std.specs.Orderings.{Decides};
 ghost use Rattle.values.specs.Numbers.{refusal-number, refusal-value};
 
 // Why a call is declined.
-#[derive(Clone, Copy, Eq, Debug)]
+#[derive(Clone, Copy)]
 pub enum Refusal {
     NoSuchReplica,
     NeverOpened,
@@ -24,15 +23,6 @@ pub enum Refusal {
     BadCapacity,
     BadReplicaCount,
     ShortBuffer,
-}
-
-// The number and the value tell a refusal.
-pub impl PartialEq<Refusal> for Refusal as RefusalPartialEq {
-    ghost equals = { λ p q r. Decides r (p ≡ q) };
-
-    fn eq(&self, other: &Refusal) -> bool {
-        self.number() == other.number() && self.value() == other.value()
-    }
 }
 
 impl Refusal {

@@ -1,12 +1,12 @@
 ghost use mathlib.Core.Path.{_≡_};
 ghost use Rattle.order.specs.Extremes.{Greatest};
-ghost use Rattle.values.specs.Times.{timestamp, null, before, version};
+ghost use Rattle.values.specs.Times.{named, timestamp, null, before, version};
 use order::TotalOrder;
 use order::greatest;
 
 // When a transaction took place: the second, and for equal seconds the transaction's number.
 // It is also the version of what that transaction wrote; the null one stands for no transaction.
-#[derive(Clone, Copy, PartialEq, Eq, PartialOrd, Ord, Debug)]
+#[derive(Clone, Copy, PartialEq, Eq, PartialOrd, Ord)]
 pub struct Timestamp {
     second: u32,
     transaction: u32,
@@ -52,11 +52,18 @@ impl Timestamp {
         self < other
     }
 
+    // Transactions are numbered from 1 to 32.
+    pub fn names_transaction(self) -> bool
+        ensures { λ r. ⌜ r ≡ named self ⌝ }
+    {
+        1 <= self.transaction && self.transaction <= 32
+    }
+
     // The null one, or one that names a transaction.
     pub fn is_version(self) -> bool
         ensures { λ r. ⌜ r ≡ version self ⌝ }
     {
-        self == Timestamp::null() || 1 <= self.transaction && self.transaction <= 32
+        self == Timestamp::null() || self.names_transaction()
     }
 }
 
