@@ -3,7 +3,6 @@
 ghost use mathlib.Core.Path.{_≡_};
 ghost use Rattle.field.specs.Layouts.{holds, ranged, Checked};
 ghost use Rattle.field.specs.Laws.{One-verdict};
-
 use values::refusal::Refusal;
 
 // A field: its place and its width in bytes, and whether its value obeys the field's rule.

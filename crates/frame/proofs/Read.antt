@@ -38,9 +38,6 @@ announced b h = ap (λ (t : Bool). cond t (Some (content-in b)) None) (eq-eqb (g
 pub not-announced : (b : List ℕ) → (getD b 12 0 ≡ 1 → ⊥) → part-in b ≡ None
 not-announced b h = ap (λ (t : Bool). cond t (Some (content-in b)) None) (ne-eqb (getD b 12 0) 1 h)
 
-pub end-is : (b : List ℕ) (n : ℕ) → n ≡ size (part-in b) → record { place = n; width = 0; good = leb (length b) n } ≡ end-field b
-end-is b n e = λ i. record { place = e i; width = 0; good = leb (length b) (e i) }
-
 pub size-announced : (b : List ℕ) → getD b 12 0 ≡ 1 → size (part-in b) ≡ 19 + 9 * getD b 17 0 + 8 * getD b 18 0
 size-announced b h =
     let lr = length-rows reading (getD b 17 0) (drop 19 b) in

@@ -2,10 +2,9 @@
 
 ghost use Rattle.content.specs.Contents.{body};
 ghost use Rattle.frame.specs.Carried.{part-said, Encodes, Parts-from};
-
-use content::content::Content;
 use crate::encoded::EncodedContent;
 use crate::message::Parts;
+use content::content::Content;
 use layout::bytes::content_bytes;
 
 impl EncodedContent {

@@ -4,9 +4,7 @@ ghost use mathlib.Core.Path.{_≡_};
 ghost use Rattle.layout.specs.Format.{header};
 ghost use Rattle.layout.specs.Values.{flag};
 ghost use Rattle.frame.specs.Messages.{value, parts, content-of, accepted-number, accepted-view};
-
 use layout::format::Header;
-
 use values::decision::Outcome;
 use values::decision::Proposal;
 use values::decision::Vote;

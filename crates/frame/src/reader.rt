@@ -12,9 +12,10 @@ ghost use Rattle.field.specs.Layouts.{Checked, Checking};
 ghost use Rattle.layout.specs.Values.{flag, size};
 ghost use Rattle.layout.specs.Numbers.{reading, writing, rows-in};
 ghost use Rattle.layout.specs.Format.{header-fields, content-fields, part-fields};
-ghost use Rattle.layout.specs.Frames.{header-in, content-in, part-in, mark-fields, end-field};
+ghost use Rattle.layout.specs.Frames.{header-in, content-in, part-in, mark-fields, ending};
 ghost use Rattle.frame.specs.Messages.{value, accepted-number, accepted-view, content-of, numbers, Ruled, Parts-in, Parts-of, Reads, Yields, One-frame, stated, parts};
-
+use crate::message::Message;
+use crate::message::Parts;
 use content::rows::Read;
 use content::rows::Write;
 use field::Field;
@@ -22,8 +23,6 @@ use field::check;
 use layout::format::Header;
 use layout::format::count_fields;
 use layout::format::header_fields;
-use crate::message::Message;
-use crate::message::Parts;
 use layout::row::ReadRow;
 use layout::row::WriteRow;
 use layout::row::byte_at;
@@ -177,20 +176,26 @@ fn accepted_of(number: u32, view: u32) -> Option<Proposal>
     }
 }
 
-// Nothing follows the frame.
-fn end_of(bytes: &[u8], header: &Header) -> Field
+// Where the frame ends.
+fn end_of(bytes: &[u8], header: &Header) -> usize
     requires { ⌜ now header ≡ header-in (now bytes) ⌝ }
-    ensures { λ r. ⌜ r ≡ end-field (now (bytes .entry)) ⌝ }
+    ensures { λ r. ⌜ r ≡ size (part-in (now (bytes .entry))) ⌝ }
 {
-    let end = if header.content == 1 {
+    if header.content == 1 {
         19 + 9 * byte_at(bytes, 17) as usize + 8 * byte_at(bytes, 18) as usize
     } else {
         13
-    };
+    }
+}
+
+// Nothing follows the end of the frame.
+fn end_field(length: usize, end: usize) -> Field
+    ensures { λ r. ⌜ r ≡ ending length end ⌝ }
+{
     Field {
         place: end,
         width: 0,
-        good: bytes.len() <= end,
+        good: length <= end,
     }
 }
 
@@ -262,7 +267,8 @@ fn read(bytes: &[u8]) -> Result<Message<'_>, Refusal>
 {
     let (kind, header) = read_header(bytes)?;
     let content = read_content(bytes, &header)?;
-    check(&[end_of(bytes, &header)], bytes.len())?;
+    let end = end_field(bytes.len(), end_of(bytes, &header));
+    check(&[end], bytes.len())?;
     Ok(message_of(kind, &header, content))
 }
 

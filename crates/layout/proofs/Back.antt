@@ -28,8 +28,14 @@ use Rattle.layout.proofs.Rows.{number-big, exact-read, exact-write, rows-laid,
 abbrev with-content : Value → Option Part → Value
 with-content v o =
     record {
-      letter = v .letter; transaction = v .transaction; sender = v .sender; view = v .view; code = v .code;
-      accepted = v .accepted; accepted-view = v .accepted-view; content = o;
+      letter = v .letter;
+      transaction = v .transaction;
+      sender = v .sender;
+      view = v .view;
+      code = v .code;
+      accepted = v .accepted;
+      accepted-view = v .accepted-view;
+      content = o;
     }
 
 part-back : (v : Value) (o : Option Part) → Fits-part o → part-in (frame (with-content v o)) ≡ o
@@ -39,15 +45,21 @@ part-back v (Some p) f =
     let c = laid writing (p .writes) in
     let n : drop (9 * length (p .reads)) (b ++ c) ≡ c = ap (λ (k : ℕ). drop k (b ++ c)) (sym (length-laid reading (exact-read .long) (p .reads))) ∙ drop-append-seam b c in
     let writes : rows-in writing (length (p .writes)) (drop (9 * length (p .reads)) (b ++ c)) ≡ p .writes =
-        ap (λ (t : List ℕ). rows-in writing (length (p .writes)) t) (n ∙ sym (append-nil c)) ∙ rows-laid exact-write (p .writes) [] (f .1 .1) in
+    ap (λ (t : List ℕ). rows-in writing (length (p .writes)) t) (n ∙ sym (append-nil c)) ∙ rows-laid exact-write (p .writes) [] (f .1 .1) in
     λ i. Some (record { second = number-big (p .second) (f .0) i; reads = rows-laid exact-read (p .reads) c (f .1 .0) i; writes = writes i })
 
 -- the message that stands in its frame
 pub value-back : (v : Value) → Lawful v → value-in (frame v) ≡ v
 value-back v l =
     λ i. record {
-      letter = v .letter; transaction = v .transaction; sender = v .sender; view = v .view; code = v .code;
-      accepted = v .accepted; accepted-view = v .accepted-view; content = part-back v (v .content) (l .fits) i;
+      letter = v .letter;
+      transaction = v .transaction;
+      sender = v .sender;
+      view = v .view;
+      code = v .code;
+      accepted = v .accepted;
+      accepted-view = v .accepted-view;
+      content = part-back v (v .content) (l .fits) i;
     }
 
 pub frame-length : (v : Value) (o : Option Part) → length (frame (with-content v o)) ≡ size o
@@ -63,9 +75,9 @@ frame-length v (Some p) =
 table-ends : {X : Type 0} (l : Layout X) (t : Timestamp) (base : ℕ) (xs : List X) (n : ℕ) → base + width l * length xs ≤ n → Ends n (table-fields l t base xs)
 table-ends l t base xs n h =
     rows-end n (row-fields l t base xs) (length xs) (λ i k.
-      let s = mul-suc (width l) i in
-      let m : width l * suc i ≤ width l * length xs = mul-le-mul-left (width l) k in
-      (omega arith, (omega arith, tt)))
+    let s = mul-suc (width l) i in
+    let m : width l * suc i ≤ width l * length xs = mul-le-mul-left (width l) k in
+    (omega arith, (omega arith, tt)))
 
 part-ends : (t : ℕ) (o : Option Part) → Ends (size o) (part-fields t o)
 part-ends t None = tt
@@ -101,7 +113,7 @@ frame-passes v l =
     let three : leb 3 n ≡ true = le-leb _ _ (omega arith) in
     let five : leb 5 n ≡ true = le-leb _ _ (omega arith) in
     let all : Passes n (mark-fields b ++ (k ++ (part-fields (v .transaction) o ++ (record { place = n; width = 0; good = leb n n } ∷ [])))) =
-        (rw three refl, (rw five refl, pass-both n k (part-fields (v .transaction) o ++ (record { place = n; width = 0; good = leb n n } ∷ [])) qh (pass-both n (part-fields (v .transaction) o) (record { place = n; width = 0; good = leb n n } ∷ []) qp (rw (here, room) refl, tt)))) in
+    (rw three refl, (rw five refl, pass-both n k (part-fields (v .transaction) o ++ (record { place = n; width = 0; good = leb n n } ∷ [])) qh (pass-both n (part-fields (v .transaction) o) (record { place = n; width = 0; good = leb n n } ∷ []) qp (rw (here, room) refl, tt)))) in
     let same : Passes n (mark-fields b ++ (k ++ (part-fields (v .transaction) (part-in b) ++ (record { place = size (part-in b); width = 0; good = leb n (size (part-in b)) } ∷ [])))) =
-        subst (λ (x : Option Part). Passes n (mark-fields b ++ (k ++ (part-fields (v .transaction) x ++ (record { place = size x; width = 0; good = leb n (size x) } ∷ []))))) (sym e) all in
+    subst (λ (x : Option Part). Passes n (mark-fields b ++ (k ++ (part-fields (v .transaction) x ++ (record { place = size x; width = 0; good = leb n (size x) } ∷ []))))) (sym e) all in
     subst (λ (m : ℕ). Passes m (mark-fields b ++ (k ++ (part-fields (v .transaction) (part-in b) ++ (record { place = size (part-in b); width = 0; good = leb m (size (part-in b)) } ∷ []))))) (sym len) same

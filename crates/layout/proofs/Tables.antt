@@ -32,7 +32,6 @@ module _ {X : Type 0} (l : Layout X) where
       let s : width l * i + width l ≡ width l * (i + 1) = let m = mul-suc (width l) i in rw add-one (sym m) in
       t ∙ (λ j. drop (4 + w j) (e j)) ∙ drop-drop (width l) (width l * i) b ∙ ap (λ (n : ℕ). drop n b) s
 
-
   pub key-met : (xs : List X) (i j m n : ℕ) (x y : X) → i < length xs → j < i → x ≡ getD xs i x → y ≡ getD xs j y → m ≡ l .key x → n ≡ l .key y → n ≡ m → false ≡ key-new l xs i
   key-met xs i j m n x y h k ex ey em en e =
       let a : l .key y ≡ l .key (getD xs j (l .blank)) = ap (l .key) (getD-read xs j y (omega arith) ey (l .blank)) in

@@ -37,7 +37,7 @@ record Flags (r : KindRules) : Type 0 where
   commit : r .commit .1 ≤ 1
 
 flags : (k : ℕ) → Flags (rules k)
-flags k = 
+flags k =
     let low : (v c a p m : ℕ × ℕ) → p .1 ≤ 1 → m .1 ≤ 1 → (n : Bool) → Flags (record { known = n; view = v; code = c; accepted = a; plain = p; commit = m }) = λ v c a p m x y n. record { plain = x; commit = y } in
     kind 80 (low _ _ _ (1, 1) (1, 1) (omega arith) (omega arith) true) (kind 86 (low _ _ _ (0, 0) (0, 0) (omega arith) (omega arith) true)
     (kind 65 (low _ _ _ (0, 0) (1, 1) (omega arith) (omega arith) true) (kind 66 (low _ _ _ (0, 0) (0, 0) (omega arith) (omega arith) true)
@@ -97,7 +97,6 @@ whole-part n t p q =
     }
 
 module _ (b : List ℕ) (f : Bytes b) where
-
   -- what follows the header is the content
   tail-is : (t : Bool) → Passes (length b) (part-fields (getD b 6 0) (cond t (Some (content-in b)) None)) → length b ≤ size (cond t (Some (content-in b)) None) → part-bytes (cond t (Some (content-in b)) None) ≡ drop 13 b
   tail-is false q h = sym (drop-all 13 b h)
@@ -180,7 +179,13 @@ module _ (b : List ℕ) (f : Bytes b) (q : Passes (length b) (byte-fields b)) wh
       let l : length b ≤ 87 = omega (arith, ends) in
       let k = getD b 5 0 in
       let same : header-in b ≡ header (value-in b) = λ i. record {
-        transaction = getD b 6 0; sender = getD b 7 0; view = getD b 8 0; code = getD b 9 0; accepted = getD b 10 0; «accepted_view» = getD b 11 0; content = sym flagged i;
+        transaction = getD b 6 0;
+        sender = getD b 7 0;
+        view = getD b 8 0;
+        code = getD b 9 0;
+        accepted = getD b 10 0;
+        «accepted_view» = getD b 11 0;
+        content = sym flagged i;
       } in
       record {
         passes = pass-both 87 (header-fields k (header (value-in b))) (part-fields (getD b 6 0) (part-in b)) (subst (λ (h : Header). Passes 87 (header-fields k h)) same (pass-longer (length b) 87 l (header-fields k (header-in b)) header-passes)) (pass-longer (length b) 87 l (part-fields (getD b 6 0) (part-in b)) part-passes);

@@ -89,9 +89,13 @@ mark-fields b =
     ∷ record { place = 3; width = 2; good = eqb (getD b 3 0) 0 && eqb (getD b 4 0) 1 }
     ∷ []
 
+-- nothing follows place e in n bytes
+abbrev pub ending : ℕ → ℕ → Field
+ending n e = record { place = e; width = 0; good = leb n e }
+
 -- nothing follows the frame
 abbrev pub end-field : List ℕ → Field
-end-field b = record { place = size (part-in b); width = 0; good = leb (length b) (size (part-in b)) }
+end-field b = ending (length b) (size (part-in b))
 
 -- the fields of bytes, in order
 abbrev pub byte-fields : List ℕ → List Field

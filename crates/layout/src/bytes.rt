@@ -5,12 +5,11 @@ ghost use Prim.Native.Nat.{_+_, _*_, _≤_};
 ghost use lib.ListN.{length};
 ghost use Rattle.layout.specs.Numbers.{width, laid};
 ghost use Rattle.layout.specs.Puts.{Put, Content-bytes};
-
-use content::rows::Read;
-use content::rows::Write;
 use crate::row::ReadRow;
 use crate::row::Row;
 use crate::row::WriteRow;
+use content::rows::Read;
+use content::rows::Write;
 
 // Writes the bytes from the place on, and says where they end.
 fn put(buf: &mut [u8], at: usize, bytes: &[u8]) -> usize

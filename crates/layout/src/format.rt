@@ -2,7 +2,6 @@
 
 ghost use mathlib.Core.Path.{_≡_};
 ghost use Rattle.layout.specs.Format.{rules, header-fields, count-fields};
-
 use field::Field;
 
 // The limits that a kind sets to a frame's numbers, each from the first to the second.
@@ -31,6 +30,7 @@ pub struct Header {
 }
 
 const NONE: (u32, u32) = (0, 0);
+
 const ONE: (u32, u32) = (1, 1);
 
 // The rules by the letter of the kind.

@@ -8,12 +8,11 @@ ghost use Rattle.content.specs.Rules.{unlike};
 ghost use Rattle.field.specs.Layouts.{Checked};
 ghost use Rattle.layout.specs.Numbers.{number, Layout, width, reading, writing, rows-in};
 ghost use Rattle.layout.specs.Format.{key-new, row-fields, table-fields, content-fields};
-
+use crate::format::count_fields;
 use content::rows::Read;
 use content::rows::Write;
 use field::Field;
 use field::check;
-use crate::format::count_fields;
 use values::refusal::Refusal;
 use values::timestamp::Timestamp;
 

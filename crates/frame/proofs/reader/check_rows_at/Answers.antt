@@ -22,7 +22,7 @@ returns c =
     let fw = few w (c .pre .1) in
     let rest = c .tail-at-rows .ensures in
     let rs : take (r - 0) (c .rows-in-read-rows .result) ≡ rows-in reading r (drop 19 b) =
-        rw sub-zero ((λ i. take (sym fr i) (c .rows-in-read-rows .result)) ∙ c .rows-in-read-rows .ensures ∙ (λ i. rows-in reading (fr i) (rest i))) in
+    rw sub-zero ((λ i. take (sym fr i) (c .rows-in-read-rows .result)) ∙ c .rows-in-read-rows .ensures ∙ (λ i. rows-in reading (fr i) (rest i))) in
     let ws : take (w - 0) (c .rows-in-write-rows .result) ≡ rows-in writing w (drop (9 * r) (drop 19 b)) =
-        rw sub-zero ((λ i. take (sym fw i) (c .rows-in-write-rows .result)) ∙ c .rows-in-write-rows .ensures ∙ (λ i. rows-in writing (fw i) ((c .tail-at .ensures ∙ ap (λ (t : List ℕ). drop (9 * r) t) rest) i))) in
+    rw sub-zero ((λ i. take (sym fw i) (c .rows-in-write-rows .result)) ∙ c .rows-in-write-rows .ensures ∙ (λ i. rows-in writing (fw i) ((c .tail-at .ensures ∙ ap (λ (t : List ℕ). drop (9 * r) t) rest) i))) in
     same-checked (length b) (c .check-content .result) (λ i. content-fields (c .args .timestamp) (rs i) (ws i)) (c .check-content .ensures)

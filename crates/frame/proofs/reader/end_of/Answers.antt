@@ -4,16 +4,17 @@ use Prim.Native.Nat.{ℕ, _+_, _*_}
 use lib.ListN.{getD}
 use Rattle.layout.specs.declared.format.Header.{Header}
 use Rattle.layout.specs.Values.{size}
-use Rattle.layout.specs.Frames.{part-in}
-use Rattle.frame.proofs.Read.{end-is, size-announced, not-announced}
+use Rattle.frame.proofs.Read.{size-announced, not-announced}
 use Rattle.frame.proofs.reader.end_of.Needs as need
-use Rattle.frame.proofs.reader.end_of.Needs.{then-header-eq1, else-header-eq1}
 
-pub returns : need.returns
-returns c =
+pub returns-then-header-eq1 : need.returns-then-header-eq1
+returns-then-header-eq1 c =
     let b = c .args .bytes .now in
     let flag : c .args .header .now .content ≡ getD b 12 0 = ap (λ (h : Header). h .content) (c .pre) in
-    end-is b (c .if-header-eq1 .end) (elim (c .if-header-eq1 .came) [
-      | then-header-eq1 w ↦ w .end-is ∙ ((λ i. 19 + 9 * w .byte-at .ensures i + 8 * w .byte-at-then-header-eq1 .ensures i) ∙ sym (size-announced b (sym flag ∙ w .if-header-eq1 .taken)))
-      | else-header-eq1 w ↦ w .end-is ∙ sym (ap size (not-announced b (λ e. w .if-header-eq1 .left (flag ∙ e))))
-    ])
+    (λ i. 19 + 9 * c .byte-at .ensures i + 8 * c .byte-at-then-header-eq1 .ensures i) ∙ sym (size-announced b (sym flag ∙ c .if-header-eq1 .taken))
+
+pub returns-else-header-eq1 : need.returns-else-header-eq1
+returns-else-header-eq1 c =
+    let b = c .args .bytes .now in
+    let flag : c .args .header .now .content ≡ getD b 12 0 = ap (λ (h : Header). h .content) (c .pre) in
+    sym (ap size (not-announced b (λ e. c .if-header-eq1 .left (flag ∙ e))))

@@ -14,7 +14,7 @@ use Rattle.layout.specs.declared.format.Header.{Header}
 use Rattle.frame.specs.declared.message.Parts.{Parts}
 use Rattle.layout.specs.Values.{Value}
 use Rattle.layout.specs.Format.{header-fields, part-fields}
-use Rattle.layout.specs.Frames.{frame, Lawful, header-in, part-in, value-in, mark-fields, end-field, byte-fields}
+use Rattle.layout.specs.Frames.{frame, Lawful, header-in, part-in, value-in, mark-fields, ending, end-field, byte-fields}
 use Rattle.frame.specs.Messages.{value, stated, Ruled, Parts-of}
 use Rattle.layout.proofs.Rows.{Bytes}
 use Rattle.layout.proofs.Whole.{whole, lawful}
@@ -39,7 +39,7 @@ returns-in-Break-content c =
 pub returns-in-Break-check : need.returns-in-Break-check
 returns-in-Break-check c =
     let b = c .args .bytes .now in
-    let e = ap (λ (f : Field). f ∷ []) (c .end-of .ensures) in
+    let e = ap (λ (f : Field). f ∷ []) (c .end-field-end .ensures ∙ ap (λ (k : ℕ). ending (length b) k) (c .end-of .ensures)) in
     let p = err-from-errBy (c .from-residual-in-Break-check .result) (c .from-residual-in-Break-check .ensures .1) in
     rw (p .1, p .2) (after (front b) (c .in-Continue-kind .ensures tt .0) (after (part-fields (getD b 6 0) (part-in b)) (c .in-Continue-content .ensures tt .0) (same-breaks e (c .in-Break-check .ensures tt .verdict))))
 
@@ -59,7 +59,7 @@ returns c =
     let h = c .in-Continue-kind .ensures tt in
     let k = c .in-Continue-content .ensures tt in
     let part = part-fields (getD b 6 0) (part-in b) in
-    let e = ap (λ (f : Field). f ∷ []) (c .end-of .ensures) in
+    let e = ap (λ (f : Field). f ∷ []) (c .end-field-end .ensures ∙ ap (λ (k : ℕ). ending (length b) k) (c .end-of .ensures)) in
     let q : Passes n (byte-fields b) = pass-both n (front b) (part ++ (end-field b ∷ [])) (h .0) (pass-both n part (end-field b ∷ []) (k .0) (same-passes n e (c .in-Continue-check .ensures tt .verdict))) in
     let content = content-is b f (c .in-Continue-content .content) (k .1) (k .0) in
     let v : value-in b ≡ value (c .message-of .result) = sym (c .message-of .ensures .means ∙ (λ i. stated (h .1 i .0) (h .1 i .1) (content i))) in

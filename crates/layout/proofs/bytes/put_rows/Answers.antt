@@ -21,7 +21,7 @@ put-end-requires g c κs =
     let l = g .T·Row .layout in
     let i = c .loop-row .row-index in
     let row : take (4 + c .rest-width .result - 0) (c .bytes-bytes .result) ≡ l .bytes (c .row-item .result) =
-        rw sub-zero ((λ j. take (4 + c .rest-width .ensures .is j) (c .bytes-bytes .result)) ∙ c .bytes-bytes .ensures) in
+    rw sub-zero ((λ j. take (4 + c .rest-width .ensures .is j) (c .bytes-bytes .result)) ∙ c .bytes-bytes .ensures) in
     let n = ap length row ∙ g .T·Row·met .long (c .row-item .result) in
     let m = mul-suc (width l) i in
     let k : width l * suc i ≤ width l * length (c .args .rows .now) = mul-le-mul-left (width l) (c .loop-row-test .taken) in
@@ -34,17 +34,18 @@ loop-row-again g c =
     let i = c .loop-row .row-index in
     let rows = c .args .rows .now in
     let row : take (4 + c .rest-width .result - 0) (c .bytes-bytes .result) ≡ l .bytes (c .row-item .result) =
-        rw sub-zero ((λ j. take (4 + c .rest-width .ensures .is j) (c .bytes-bytes .result)) ∙ c .bytes-bytes .ensures) in
+    rw sub-zero ((λ j. take (4 + c .rest-width .ensures .is j) (c .bytes-bytes .result)) ∙ c .bytes-bytes .ensures) in
     let n = ap length row ∙ g .T·Row·met .long (c .row-item .result) in
     let m : width l * (i + 1) ≡ width l * i + width l = rw add-one (mul-suc (width l) i) in
     let e = c .loop-row .inv .0 in
     let ends = c .put-end .ensures .ends in
     let front = length-laid l (g .T·Row·met .long) (take i rows) in
     let count : length (take i rows) ≡ i = length-take-le i rows (c .loop-row .kept .row-index-end) in
-    let at : c .loop-row .end ≡ c .args .at + length (laid l (take i rows)) = e ∙ ap (λ (k : ℕ). c .args .at + k) (sym (front ∙ ap (λ (k : ℕ). width l * k) count)) in
-    (omega arith,
-    same-put ((λ j. laid l (take i rows) ++ row j) ∙ laid-next l rows i (c .row-item .result) (c .loop-row-test .taken) (c .row-item .is))
-    (then-put (c .args .at) (c .loop-row .end) (laid l (take i rows)) (take (4 + c .rest-width .result - 0) (c .bytes-bytes .result)) at (c .loop-row .inv .1) (c .put-end .ensures .puts)))
+    let at : c .loop-row .end ≡ c .args .at + length (laid l (take i rows)) = e ∙ ap (λ (k : ℕ). c .args .at + k) (sym (front ∙ ap (λ (k : ℕ). width l * k) count)) in (
+      omega arith,
+      same-put ((λ j. laid l (take i rows) ++ row j) ∙ laid-next l rows i (c .row-item .result) (c .loop-row-test .taken) (c .row-item .is))
+          (then-put (c .args .at) (c .loop-row .end) (laid l (take i rows)) (take (4 + c .rest-width .result - 0) (c .bytes-bytes .result)) at (c .loop-row .inv .1) (c .put-end .ensures .puts)),
+    )
 
 pub returns : need.returns
 returns g c =

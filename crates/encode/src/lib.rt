@@ -1,0 +1,4 @@
+// Writing a frame.
+
+pub mod message;
+pub mod writer;

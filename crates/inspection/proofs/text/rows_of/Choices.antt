@@ -1,0 +1,10 @@
+use mathlib.Core.Path.{_≡_}
+use Prim.Native.Nat.{_*_}
+use lib.ListN.{drop}
+use Rattle.std.specs.Of.Vec.{vec-items}
+use Rattle.layout.specs.Numbers.{width, rows-in}
+use Rattle.inspection.proofs.text.rows_of.Given as given
+
+abbrev pub Inv-loop-i : given.InvT-loop-i
+Inv-loop-i g l =
+    (vec-items (l .rows) ≡ rows-in (g .T·Row .layout) (l .i) (l .entry .part)) × (l .rest ≡ drop (width (g .T·Row .layout) * l .i) (l .entry .part))

@@ -1,0 +1,5 @@
+pub mod Apart
+pub mod Counting
+pub mod Saying
+pub mod Spelling
+pub mod Wording
