@@ -3,3 +3,4 @@ pub mod Tables
 pub mod Whole
 pub mod Back
 pub mod Puts
+pub mod Sound

@@ -3,3 +3,4 @@ pub mod Numbers
 pub mod Format
 pub mod Frames
 pub mod Puts
+pub mod Laws

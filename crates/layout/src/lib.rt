@@ -3,4 +3,5 @@
 pub mod bytes;
 pub mod fields;
 pub mod format;
+pub mod laws;
 pub mod row;
