@@ -16,7 +16,7 @@ use Rattle.layout.proofs.Back.{frame-passes}
 use Rattle.frame.proofs.Read.{one-frame}
 use Rattle.inspection.specs.Saying.{Says, One-answer}
 use Rattle.inspection.specs.Saying.Says.{not-hex, broken, framed}
-use Rattle.inspection.specs.Wording.{text, refusal-text}
+use Rattle.wording.specs.Wording.{text, refusal-text}
 
 never : {X : Type 0} (o : Option (List ℕ)) (b : List ℕ) → o ≡ None → o ≡ Some b → X
 never o b p q = let z : _≡_ {A = ℕ} 0 1 = cc in absurd (omega arith)

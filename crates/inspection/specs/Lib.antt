@@ -1,5 +1,3 @@
-pub mod Apart
 pub mod Counting
 pub mod Saying
 pub mod Spelling
-pub mod Wording

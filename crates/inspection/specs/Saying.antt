@@ -11,7 +11,7 @@ use Rattle.layout.specs.Frames.{frame, Lawful, byte-fields}
 use Rattle.layout.specs.Values.{Value}
 use Rattle.inspection.specs.Counting.{counted}
 use Rattle.inspection.specs.Spelling.{unhex}
-use Rattle.inspection.specs.Wording.{text, refusal-text}
+use Rattle.wording.specs.Wording.{text, refusal-text}
 use Rattle.inspection.specs.declared.tally.Tally.{Tally}
 
 -- these words are said of a line, and it is refused or not

@@ -4,4 +4,3 @@ pub mod hex;
 pub mod line;
 pub mod run;
 pub mod tally;
-pub mod text;

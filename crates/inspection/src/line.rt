@@ -5,11 +5,11 @@ ghost use Rattle.std.specs.Vec.{made};
 ghost use Rattle.inspection.specs.Saying.{Says, Told, One-answer};
 use crate::hex::from_hex;
 use crate::tally::Tally;
-use crate::text::message_text;
-use crate::text::refused_text;
 use frame::reader::read_frame;
 use std::alloc::AllocError;
 use std::alloc::Global;
+use wording::text::message_text;
+use wording::text::refused_text;
 
 // What is said of a line, and whether the line is refused.
 fn verdict(heap: Global, line: &[u8]) -> Result<(String, bool), AllocError>

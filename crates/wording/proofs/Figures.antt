@@ -9,7 +9,7 @@ use lib.ListN.{length}
 use Rattle.std.specs.Written.{decimal}
 use Rattle.std.proofs.shelf.Decimals.{decimal-by-steps, decimal-some, same-from-decimal}
 use Rattle.std.proofs.shelf.Ways.{tells}
-use Rattle.inspection.specs.Apart.{Sized, Each}
+use Rattle.wording.specs.Apart.{Sized, Each}
 
 abbrev Figure : ℕ → Type 0
 Figure d = (48 ≤ d) × (d ≤ 57)

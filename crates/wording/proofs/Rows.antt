@@ -1,6 +1,6 @@
 use mathlib.Core.Path.{_≡_, refl, sym, _∙_, ap}
 use mathlib.Core.List.{List, [], _∷_, _++_, map, append-assoc, append-nil}
-use Prim.Native.Nat.{ℕ, _+_, _-_, _*_, _≤_, _<_}
+use Prim.Native.Nat.{ℕ, _+_, _-_, _*_, _/_, _≤_, _<_}
 use native.Mathlib.Numerals.{add-one}
 use native.Mathlib.Omega.{arith}
 use lib.Dec.{lit<}
@@ -10,7 +10,7 @@ use Rattle.std.proofs.shelf.Lists.{map-append, take-all, take-more}
 use Rattle.std.proofs.shelf.Text.{encode-ascii}
 use Rattle.layout.specs.Numbers.{Layout, width, rows-in}
 use Rattle.layout.proofs.Tables.{rows-next}
-use Rattle.inspection.specs.Wording.{spaced, listed}
+use Rattle.wording.specs.Wording.{spaced, listed}
 
 -- one more word at the end
 spaced-push : (ws : List (List ℕ)) (w : List ℕ) → spaced (ws ++ w ∷ []) ≡ spaced ws ++ (32 ∷ w)
@@ -44,9 +44,14 @@ module _ {X : Type 0} (word : X → List ℕ) where
   listed-none t [] l e = e
   listed-none t (y ∷ ys) l e = absurd (omega arith)
 
--- one more row, read from the rest of the bytes
-pub row-pushed :
-    {X : Type 0} (l : Layout X) (i : ℕ) (b rest : List ℕ) (x : X) (xs ys : List X) → xs ≡ rows-in l i b → rest ≡ drop (width l * i) b → x ≡ l .row rest
-    → ys ≡ xs ++ x ∷ [] → ys ≡ rows-in l (i + 1) b
-row-pushed l i b rest x xs ys e r k p =
-    p ∙ ((λ j. e j ++ ((k ∙ ap (l .row) r) j ∷ [])) ∙ (sym (rows-next l i b) ∙ ap (λ (n : ℕ). rows-in l n b) (sym (add-one i))))
+module _ {X : Type 0} (l : Layout X) {r : ℕ} (w : r ≡ l .rest) where
+  -- one more row, read from its place on
+  pub row-pushed :
+      (i : ℕ) (b rest : List ℕ) (x : X) (xs ys : List X) → xs ≡ rows-in l i b → rest ≡ drop ((4 + r) * i) b → x ≡ l .row rest → ys ≡ xs ++ x ∷ []
+      → ys ≡ rows-in l (i + 1) b
+  row-pushed i b rest x xs ys e d k p =
+      let here : x ≡ l .row (drop (width l * i) b) = k ∙ ap (l .row) (d ∙ ap (λ (n : ℕ). drop ((4 + n) * i) b) w) in
+      p ∙ ((λ j. e j ++ (here j ∷ [])) ∙ (sym (rows-next l i b) ∙ ap (λ (n : ℕ). rows-in l n b) (sym (add-one i))))
+
+  pub all-rows : (i : ℕ) (b : List ℕ) (xs : List X) → xs ≡ rows-in l i b → i ≡ length b / (4 + r) → xs ≡ rows-in l (length b / width l) b
+  all-rows i b xs e h = e ∙ ap (λ (n : ℕ). rows-in l n b) (h ∙ ap (λ (n : ℕ). length b / (4 + n)) w)

@@ -6,7 +6,7 @@ use Rattle.std.specs.declared.option.Option.the-variants.{Some, None}
 use Rattle.content.specs.declared.rows.Read.{Read}
 use Rattle.content.specs.declared.rows.Write.{Write}
 use Rattle.layout.specs.Values.{Value, Part}
-use Rattle.inspection.specs.Wording.{text}
+use Rattle.wording.specs.Wording.{text}
 
 -- a number of the code
 abbrev pub Sized : ℕ → Type 0

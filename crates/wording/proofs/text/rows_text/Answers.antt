@@ -4,8 +4,8 @@ use Prim.Native.Nat.{ℕ}
 use native.Mathlib.Omega.{arith}
 use borrow.Author.Tests.{ltb-true, ltb-false}
 use Rattle.std.specs.Of.String.{string-bytes}
-use Rattle.inspection.proofs.Rows.{spaced-more, listed-all, listed-none}
-use Rattle.inspection.proofs.text.rows_text.Needs as need
+use Rattle.wording.proofs.Rows.{spaced-more, listed-all, listed-none}
+use Rattle.wording.proofs.text.rows_text.Needs as need
 
 pub returns-in-rest : need.returns-in-rest
 returns-in-rest g c = listed-none (g .T·Worded .words) (string-bytes (c .new .result)) (c .args .rows .now) (omega (arith, ltb-true)) (c .new .ensures .bytes)

@@ -13,9 +13,9 @@ use Rattle.std.proofs.shelf.Text.{encode-same}
 use Rattle.content.specs.declared.rows.Read.{Read}
 use Rattle.content.specs.declared.rows.Write.{Write}
 use Rattle.layout.specs.Values.{Value, Part, flag}
-use Rattle.inspection.specs.Apart.{Each, Sized-read, Sized-write, Sized-part, Sized-value, Told-apart}
-use Rattle.inspection.specs.Wording.{read-words, write-words, spaced, listed, labelled, tail-text, rest-text, text}
-use Rattle.inspection.proofs.Figures.{ends, same-rest, same-number, number-starts}
+use Rattle.wording.specs.Apart.{Each, Sized-read, Sized-write, Sized-part, Sized-value, Told-apart}
+use Rattle.wording.specs.Wording.{read-words, write-words, spaced, listed, labelled, tail-text, rest-text, text}
+use Rattle.wording.proofs.Figures.{ends, same-rest, same-number, number-starts}
 
 never : {X : Type 0} → true ≡ false → X
 never e = let z : _≡_ {A = ℕ} 0 1 = cc in absurd (omega arith)

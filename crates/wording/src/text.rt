@@ -9,8 +9,8 @@ ghost use Rattle.std.specs.declared.option.Option.the-variants.{Some};
 ghost use Rattle.layout.specs.Numbers.{width, rows-in};
 ghost use Rattle.layout.specs.Values.{flag, given, part-given};
 ghost use Rattle.frame.specs.Messages.{value, stated, part-of};
-ghost use Rattle.inspection.specs.Apart.{Told-apart};
-ghost use Rattle.inspection.specs.Wording.{read-words, write-words, listed, tail-text, rest-text, text, bare, place-text, refusal-text};
+ghost use Rattle.wording.specs.Apart.{Told-apart};
+ghost use Rattle.wording.specs.Wording.{read-words, write-words, listed, tail-text, rest-text, text, bare, place-text, refusal-text};
 use content::rows::Read;
 use content::rows::Write;
 use frame::message::Message;
@@ -128,12 +128,11 @@ pub fn fields_text(heap: Global, kind: char, fields: &Fields<'_>) -> Result<Stri
 fn rows_of<T: Row>(heap: Global, part: &[u8]) -> Result<Vec<T>, AllocError>
     ensures { λ r. ⌜ made r (λ v. vec-items v ≡ rows-in (T·Row .layout) (length (now (part .entry)) / width (T·Row .layout)) (now (part .entry))) ⌝ }
 {
-    let count = part.len() / (4 + T::rest());
+    let width = 4 + T::rest();
+    let count = part.len() / width;
     let mut rows = Vec::with_capacity(heap, count)?;
-    let mut rest = part;
     for i in 0..count {
-        rows.push(T::read(rest))?;
-        rest = tail_at(rest, 4 + T::rest());
+        rows.push(T::read(tail_at(part, width * i)))?;
     }
     Ok(rows)
 }

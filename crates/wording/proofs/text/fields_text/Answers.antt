@@ -1,6 +1,6 @@
 use borrow.Author.Needs.{needs}
-use Rattle.inspection.proofs.Lines.{told-apart}
-use Rattle.inspection.proofs.text.fields_text.Needs as need
+use Rattle.wording.proofs.Lines.{told-apart}
+use Rattle.wording.proofs.text.fields_text.Needs as need
 
 pub returns-in-Break-rest : need.returns-in-Break-rest
 returns-in-Break-rest c = record { value = search needs; law = told-apart }

@@ -1,0 +1,4 @@
+mod Figures
+mod Lines
+mod Meaning
+mod Rows

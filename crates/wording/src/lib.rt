@@ -1,0 +1,3 @@
+// What is said of a message or a refusal in one line.
+
+pub mod text;
