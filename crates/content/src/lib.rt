@@ -1,4 +1,5 @@
 // What a transaction read and writes.
+#![tactic(auto)]
 
 pub mod content;
 mod keyed;

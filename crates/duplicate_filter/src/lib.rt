@@ -1,4 +1,5 @@
 // A link over another that swallows repeats: a frame equal to one of the last 8 that it handed out.
+#![tactic(auto)]
 
 ghost use Rattle.std.specs.Prelude.{◌≡◌, [], ◌∷◌, ◌++◌, map, IfOk};
 ghost use Rattle.link.specs.Packets.{frame_of};

@@ -1,4 +1,5 @@
 // Writing a frame.
+#![tactic(auto)]
 
 pub mod message;
 pub mod writer;

@@ -1,4 +1,5 @@
 // The fields of a layout, checked in order: the first that is cut or breaks its rule is the fault.
+#![tactic(auto)]
 
 ghost use Rattle.std.specs.Prelude.{◌≡◌};
 ghost use Rattle.field.specs.Layouts.{holds, ranged, Checked};

@@ -1,4 +1,5 @@
 // A link as a queue: a take hands out the oldest frame for the address, once.
+#![tactic(auto)]
 
 ghost use Rattle.std.specs.Prelude.{◌≡◌, [], map, IfOk};
 ghost use Rattle.link.specs.Packets.{frame_of};

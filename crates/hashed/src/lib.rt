@@ -1,4 +1,5 @@
 // A store as a hashed table: a key's search begins at a place that the key gives, and goes on from place to place.
+#![tactic(auto)]
 
 ghost use Rattle.std.specs.Prelude.{◌≡◌, ℕ, ◌<◌, slice_set};
 ghost use Rattle.store.specs.Table.{Made};

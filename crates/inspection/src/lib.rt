@@ -1,4 +1,5 @@
 // What the program `inspect` says of the lines that it reads.
+#![tactic(auto)]
 
 pub mod hex;
 pub mod line;

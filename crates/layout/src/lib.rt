@@ -1,4 +1,5 @@
 // How a message lies in bytes: its fields, their rules, and its rows.
+#![tactic(auto)]
 
 pub mod bytes;
 pub mod fields;

@@ -1,4 +1,5 @@
 // The links that carry frames between replicas: a frame is put in for an address, and taken out for that address.
+#![tactic(auto)]
 
 ghost use Rattle.std.specs.Prelude.{◌≡◌, ℕ, List, Decides, Option, ◌==◌};
 ghost use Rattle.link.specs.Frames.{Frame, AfterPut, AfterTake, Taken};

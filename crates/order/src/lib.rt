@@ -1,4 +1,5 @@
 // Greatest and least of a list, once for every type with a total order.
+#![tactic(auto)]
 
 ghost use Rattle.std.specs.Prelude.{◌≡◌, Bool};
 ghost use Rattle.order.specs.Extremes.{IsTotalOrder, Compares, Greatest, Least, Extreme, beats};

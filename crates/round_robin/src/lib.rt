@@ -1,4 +1,5 @@
 // A link that hands out its frames in turn and keeps them, so that each comes again and again until a newer one replaces it.
+#![tactic(auto)]
 
 ghost use Rattle.std.specs.Prelude.{◌≡◌, ◌<◌, map, IfOk};
 ghost use Rattle.link.specs.Packets.{frame_of};

@@ -1,4 +1,5 @@
 // The rows that a replica keeps, one for each key.
+#![tactic(auto)]
 
 ghost use Rattle.std.specs.Prelude.{◌≡◌, ℕ, ◌+◌};
 ghost use Rattle.store.specs.Table.{Table, Put, Counted, has, row_of, null_row};

@@ -1,4 +1,5 @@
 // A store as a search tree: from each node a key's search goes on to the lower side or to the higher one.
+#![tactic(auto)]
 
 ghost use Rattle.std.specs.Prelude.{◌≡◌, ℕ, ◌<◌};
 ghost use Rattle.store.specs.Table.{Made};

@@ -1,4 +1,5 @@
 // The plain values that every layer rests on.
+#![tactic(auto)]
 
 pub mod decision;
 pub mod laws;

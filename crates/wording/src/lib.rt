@@ -1,3 +1,4 @@
 // What is said of a message or a refusal in one line.
+#![tactic(auto)]
 
 pub mod text;
