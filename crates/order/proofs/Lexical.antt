@@ -1,5 +1,6 @@
 use Rattle.std.proofs.Common.{◌≡◌, ℕ, ◌<◌, Bool, true, false, ◌&&◌, ◌||◌, eqb, ltb, ◌⊎◌, Ordering, Less, Equal, Greater, inl, inr, arith}
-use Rattle.std.specs.Ordering.{MatchOrdering}
+use Rattle.std.specs.Cmp.{ranks}
+use Rattle.std.specs.Ordering.{MatchOrdering, nat_cmp, ordering_then}
 use Rattle.std.proofs.lemmas.Bool.{cases_order}
 use Rattle.std.proofs.lemmas.Bool.Decides.{nat_tests}
 use Rattle.order.specs.Extremes.{IsTotalOrder}
@@ -40,13 +41,13 @@ module _ {K : Type 0} (f g : K → ℕ) (same : (x y : K) → f x ≡ f y → g 
     total = λ x y. elim (one_of (f x) (g x) (f y) (g y)) [ inl h ↦ inl h | inr (inl h) ↦ inr (inl (same x y h.0 h.1)) | inr (inr h) ↦ inr (inr h) ];
   }
 
-  -- what a derived comparison of the two answers, where Q is the answer at the second
-  pub by_two_compares : {Q : Type 0} (x y : K) (r : Ordering) → (Q → MatchOrdering r (g x < g y) (g x ≡ g y) (g y < g x)) → ((f x < f y) × (r ≡ Less)) ⊎ (((f y < f x) × (r ≡ Greater)) ⊎ ((f x ≡ f y) × Q)) → MatchOrdering r (by_two x y ≡ true) (x ≡ y) (by_two y x ≡ true)
-  by_two_compares x y r second (inl h) = rw h.1 (let l = h.0 in grind (arith, nat_tests))
-  by_two_compares x y r second (inr (inl h)) = rw h.1 (let l = h.0 in grind (arith, nat_tests))
-  by_two_compares x y r second (inr (inr h)) = go r (second h.1)
+  -- what a derived comparison of the two answers, where q is the answer at the second
+  pub by_two_compares : (x y : K) (q r : Ordering) → MatchOrdering q (g x < g y) (g x ≡ g y) (g y < g x) → r ≡ ordering_then (nat_cmp (f x) (f y)) q → MatchOrdering r (by_two x y ≡ true) (x ≡ y) (by_two y x ≡ true)
+  by_two_compares x y q r second e = rw e (go (nat_cmp (f x) (f y)) q (ranks (f x) (f y)) second)
     where
-      go : (r : Ordering) → MatchOrdering r (g x < g y) (g x ≡ g y) (g y < g x) → MatchOrdering r (by_two x y ≡ true) (x ≡ y) (by_two y x ≡ true)
-      go Less k = let e = h.0 in grind (arith, nat_tests)
-      go Equal k = same x y h.0 k
-      go Greater k = let e = h.0 in grind (arith, nat_tests)
+      go : (p q : Ordering) → MatchOrdering p (f x < f y) (f x ≡ f y) (f y < f x) → MatchOrdering q (g x < g y) (g x ≡ g y) (g y < g x) → MatchOrdering (ordering_then p q) (by_two x y ≡ true) (x ≡ y) (by_two y x ≡ true)
+      go Less q l k = grind (arith, nat_tests)
+      go Greater q l k = grind (arith, nat_tests)
+      go Equal Less e k = grind (arith, nat_tests)
+      go Equal Equal e k = same x y e k
+      go Equal Greater e k = grind (arith, nat_tests)

@@ -1,2 +1,2 @@
-pub mod Decisions
 pub mod Refusals
+pub mod Timestamps

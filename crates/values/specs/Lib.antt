@@ -1,4 +1,4 @@
 pub mod Numbers
+pub mod Orders
 pub mod Proposals
 pub mod Times
-pub mod Timestamps

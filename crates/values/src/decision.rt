@@ -1,7 +1,8 @@
-ghost use Rattle.std.specs.Prelude.{◌≡◌};
+ghost use Rattle.std.specs.Prelude.{◌≡◌, refl};
 ghost use Rattle.order.specs.Extremes.{Greatest};
 ghost use Rattle.values.specs.Numbers.{vote_number, outcome_number, Numbered};
 ghost use Rattle.values.specs.Proposals.{sooner, lower};
+ghost use Rattle.values.specs.Orders.{outcomes_ordered, outcomes_compare, proposals_ordered, proposals_compare};
 
 use order::{TotalOrder, greatest};
 
@@ -28,10 +29,18 @@ pub struct Proposal {
 
 impl TotalOrder for Outcome {
     ghost below = { sooner };
+
+    ghost total = { outcomes_ordered };
+
+    ghost compares = { outcomes_compare Self.Ord.cmp refl refl refl refl };
 }
 
 impl TotalOrder for Proposal {
     ghost below = { lower };
+
+    ghost total = { proposals_ordered };
+
+    ghost compares = { proposals_compare ⟦<Outcome as Ord>⟧.cmp refl refl refl refl };
 }
 
 impl Vote {

@@ -1,9 +1,7 @@
 ghost use Rattle.std.specs.Prelude.{◌≡◌};
 ghost use Rattle.order.specs.Extremes.{Greatest};
 ghost use Rattle.values.specs.Times.{named, timestamp, null, before, version};
-ghost use Rattle.values.specs.Timestamps.{ordered, same};
-ghost use Rattle.order.proofs.Lexical.{by_two_compares};
-ghost use Rattle.values.specs.declared.timestamp.Timestamp.{Timestamp};
+ghost use Rattle.values.specs.Orders.{timestamps_ordered, timestamps_compare};
 
 use order::{TotalOrder, greatest};
 
@@ -18,9 +16,9 @@ pub struct Timestamp {
 impl TotalOrder for Timestamp {
     ghost below = { before };
 
-    ghost total = { ordered };
+    ghost total = { timestamps_ordered };
 
-    ghost compares = { λ x y r h. by_two_compares (λ (t : Timestamp). t.second) (λ t. t.transaction) same x y r (λ q. q) h };
+    ghost compares = { timestamps_compare };
 }
 
 impl Timestamp {

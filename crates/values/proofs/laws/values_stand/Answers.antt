@@ -1,5 +1,5 @@
 use Rattle.values.proofs.Refusals.{refusal_laws}
-use Rattle.values.specs.Timestamps.{timestamp_laws}
+use Rattle.values.proofs.Timestamps.{timestamp_laws}
 use Rattle.values.proofs.laws.values_stand.Goals as goal
 
 pub returns : goal.returns

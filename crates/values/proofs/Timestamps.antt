@@ -1,31 +1,23 @@
-use Rattle.std.specs.Prelude.{◌≡◌, true, false, ◌⊎◌, Decides, ◌≢◌, refl}
-use Rattle.std.proofs.Common.{ap, sym, subst, inl, inr, arith}
+use Rattle.std.proofs.Common.{◌≡◌, ◌≢◌, true, false, ◌⊎◌, Decides, refl, ap, sym, subst, inl, inr, arith}
 use Rattle.std.proofs.lemmas.Bool.{cases_Bool}
 use Rattle.std.proofs.lemmas.Bool.Decides.{nat_tests}
-use Rattle.order.specs.Extremes.{IsTotalOrder}
-use Rattle.order.proofs.Lexical.{by_two_total}
 use Rattle.values.specs.declared.timestamp.Timestamp.{Timestamp}
+use Rattle.values.specs.Orders.{same_timestamp, timestamps_ordered}
 use Rattle.values.specs.Times.{timestamp, null, before, named, version, TimestampLaws}
-
-pub same : (s t : Timestamp) → s.second ≡ t.second → s.transaction ≡ t.transaction → s ≡ t
-same s t p q = λ i. timestamp (p i) (q i)
-
-pub ordered : IsTotalOrder before
-ordered = by_two_total (λ (t : Timestamp). t.second) (λ t. t.transaction) same
 
 null_first : (t : Timestamp) → (t ≢ null) → before null t ≡ true
 null_first t n = go (cases_Bool (before null t))
   where
     go : (before null t ≡ true) ⊎ (before null t ≡ false) → before null t ≡ true
     go (inl h) = h
-    go (inr h) = absurd (n (same t null (grind (arith, nat_tests)) (grind (arith, nat_tests))))
+    go (inr h) = absurd (n (same_timestamp t null (grind (arith, nat_tests)) (grind (arith, nat_tests))))
 
 versions : (t : Timestamp) → Decides (version t) ((t ≡ null) ⊎ (named t ≡ true))
 versions t = (λ h. go (cases_Bool (named t)) h, λ h. back h)
   where
     go : (named t ≡ true) ⊎ (named t ≡ false) → version t ≡ true → (t ≡ null) ⊎ (named t ≡ true)
     go (inl n) h = inr n
-    go (inr n) h = inl (same t null (grind (arith, nat_tests)) (grind (arith, nat_tests)))
+    go (inr n) h = inl (same_timestamp t null (grind (arith, nat_tests)) (grind (arith, nat_tests)))
 
     back : (t ≡ null) ⊎ (named t ≡ true) → version t ≡ true
     back (inl e) = subst (λ (s : Timestamp). version s ≡ true) (sym e) refl
@@ -36,7 +28,7 @@ null_before t n = grind (arith, nat_tests)
 
 pub timestamp_laws : TimestampLaws
 timestamp_laws = record {
-  ordered = ordered;
+  ordered = timestamps_ordered;
   null_first = null_first;
   whole = λ t. refl;
   names = λ s t n e. n (ap (λ (x : Timestamp). x.transaction) e);
