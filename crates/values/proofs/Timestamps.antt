@@ -3,7 +3,7 @@ use Rattle.std.proofs.lemmas.Bool.{cases_Bool}
 use Rattle.std.proofs.lemmas.Bool.Decides.{nat_tests}
 use Rattle.values.specs.declared.timestamp.Timestamp.{Timestamp}
 use Rattle.values.specs.Orders.{same_timestamp, timestamps_ordered}
-use Rattle.values.specs.Times.{timestamp, null, before, named, version, TimestampLaws}
+use Rattle.values.specs.Times.{null, before, named, version, TimestampLaws}
 
 null_first : (t : Timestamp) → (t ≢ null) → before null t ≡ true
 null_first t n = go (cases_Bool (before null t))
