@@ -52,21 +52,21 @@ pub told_by_body : ToldByBody
 told_by_body c d e =
     let reads : c.reads ≡ d.reads = c.reads_blank ∙ ap (λ (b : Body). filled no_read b.reads) e ∙ sym d.reads_blank in
     let writes : c.writes ≡ d.writes = c.writes_blank ∙ ap (λ (b : Body). filled no_write b.writes) e ∙ sym d.writes_blank in
-    let read-count : c.read_count ≡ d.read_count =
+    let reads_counted : c.read_count ≡ d.read_count =
     sym (count_filled no_read _ c.reads c.reads_fit c.reads_blank) ∙ ap (λ (b : Body). length b.reads) e ∙ count_filled no_read _ d.reads d.reads_fit d.reads_blank in
-    let write-count : c.write_count ≡ d.write_count =
+    let writes_counted : c.write_count ≡ d.write_count =
     sym (count_filled no_write _ c.writes c.writes_fit c.writes_blank) ∙ ap (λ (b : Body). length b.writes) e ∙ count_filled no_write _ d.writes d.writes_fit d.writes_blank in
     λ i. record {
       timestamp = (e i).timestamp;
       reads = reads i;
-      read_count = read-count i;
+      read_count = reads_counted i;
       writes = writes i;
-      write_count = write-count i;
-      ok = is_prop→PathP (λ j. sound (body_of (e j).timestamp (take (read-count j) (reads j)) (take (write-count j) (writes j))) ≡ true) (λ j. Bool-set _ true) c.ok d.ok i;
-      reads_fit = is_prop→PathP (λ j. read-count j ≤ 4) (λ j. le_prop) c.reads_fit d.reads_fit i;
-      reads_blank = is_prop→PathP (λ j. reads j ≡ filled no_read (take (read-count j) (reads j))) (λ j. is_set (Coded-set (read.the_row).coded) _ _) c.reads_blank d.reads_blank i;
-      writes_fit = is_prop→PathP (λ j. write-count j ≤ 4) (λ j. le_prop) c.writes_fit d.writes_fit i;
-      writes_blank = is_prop→PathP (λ j. writes j ≡ filled no_write (take (write-count j) (writes j))) (λ j. is_set (Coded-set (write.the_row).coded) _ _) c.writes_blank d.writes_blank i;
+      write_count = writes_counted i;
+      ok = is_prop→PathP (λ j. sound (body_of (e j).timestamp (take (reads_counted j) (reads j)) (take (writes_counted j) (writes j))) ≡ true) (λ j. Bool-set _ true) c.ok d.ok i;
+      reads_fit = is_prop→PathP (λ j. reads_counted j ≤ 4) (λ j. le_prop) c.reads_fit d.reads_fit i;
+      reads_blank = is_prop→PathP (λ j. reads j ≡ filled no_read (take (reads_counted j) (reads j))) (λ j. is_set (Coded-set (read.the_row).coded) _ _) c.reads_blank d.reads_blank i;
+      writes_fit = is_prop→PathP (λ j. writes_counted j ≤ 4) (λ j. le_prop) c.writes_fit d.writes_fit i;
+      writes_blank = is_prop→PathP (λ j. writes j ≡ filled no_write (take (writes_counted j) (writes j))) (λ j. is_set (Coded-set (write.the_row).coded) _ _) c.writes_blank d.writes_blank i;
     }
 
 -- what a content says gives that content

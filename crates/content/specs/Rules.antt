@@ -1,4 +1,4 @@
-use Rattle.std.specs.Prelude.{◌≡◌, ℕ, zero, suc, ◌+◌, ◌-◌, ◌<◌, ◌≤◌, Bool, true, not, ◌&&◌, List, ◌++◌, length, get_or, replicate, ◌==◌, ◌≢◌, nat_le, slice_index_or}
+use Rattle.std.specs.Prelude.{◌≡◌, ℕ, zero, suc, ◌+◌, ◌-◌, ◌<◌, ◌≤◌, Bool, true, not, ◌&&◌, List, ◌++◌, length, replicate, ◌==◌, ◌≢◌, nat_le, slice_index_or}
 use Rattle.values.specs.declared.timestamp.Timestamp.{Timestamp}
 use Rattle.values.specs.Times.{null, named, version, before}
 use Rattle.content.specs.declared.rows.Read.{Read}
@@ -25,10 +25,10 @@ abbrev pub no_write : Write
 no_write = record { key = 0; value = 0 }
 
 abbrev pub read_keys : List Read → ℕ → ℕ
-read_keys rs i = (get_or rs i no_read).key
+read_keys rs i = (slice_index_or rs i no_read).key
 
 abbrev pub write_keys : List Write → ℕ → ℕ
-write_keys ws i = (get_or ws i no_write).key
+write_keys ws i = (slice_index_or ws i no_write).key
 
 -- a transaction at t can have read it: a version, from before t
 abbrev pub readable : Timestamp → Read → Bool
@@ -73,8 +73,8 @@ pub record Sound (b : Body) : Type 0 where
   pub some : 1 ≤ length b.reads + length b.writes
   pub reads_apart : Apart (read_keys b.reads) (length b.reads)
   pub writes_apart : Apart (write_keys b.writes) (length b.writes)
-  pub are_versions : (i : ℕ) → i < length b.reads → version (get_or b.reads i no_read).version ≡ true
-  pub are_before : (i : ℕ) → i < length b.reads → before (get_or b.reads i no_read).version b.timestamp ≡ true
+  pub are_versions : (i : ℕ) → i < length b.reads → version (slice_index_or b.reads i no_read).version ≡ true
+  pub are_before : (i : ℕ) → i < length b.reads → before (slice_index_or b.reads i no_read).version b.timestamp ≡ true
 
 -- the test finds just the bodies of transactions
 pub record SoundTested : Type 0 where
