@@ -8,5 +8,7 @@ use Rattle.layout.specs.Format.{part_fields}
 
 -- the fields of a content obey their rules exactly if it is the content of a transaction
 pub record ContentRules : Type 0 where
-  pub only : (t : ℕ) (p : Part) → named (timestamp p.second t) ≡ true → Passes 87 (part_fields t (Some p)) → sound (body_of (timestamp p.second t) p.reads p.writes) ≡ true
-  pub every : (t : ℕ) (p : Part) → sound (body_of (timestamp p.second t) p.reads p.writes) ≡ true → Passes 87 (part_fields t (Some p))
+  pub only : (t : ℕ) (p : Part) → named (timestamp p.second t) ≡ true → Passes 87 (part_fields t (Some p))
+      → sound (body_of (timestamp p.second t) p.reads p.writes) ≡ true
+  pub every : (t : ℕ) (p : Part) → sound (body_of (timestamp p.second t) p.reads p.writes) ≡ true
+      → Passes 87 (part_fields t (Some p))

@@ -1,11 +1,10 @@
 // Reads and writes as the rows of a frame: what they share is written once.
 
-ghost use Rattle.std.specs.Prelude.{◌≡◌, ℕ, ◌+◌, ◌*◌, ◌<◌, ◌≤◌, min, List, length, take, drop, slice_index};
+ghost use Rattle.std.specs.Prelude.{◌≡◌, ℕ, ◌+◌, ◌*◌, ◌<◌, ◌≤◌, min, List, length, take, drop, slice_index, refl};
 ghost use Rattle.content.specs.Rules.{unlike};
 ghost use Rattle.field.specs.Layouts.{Checked};
 ghost use Rattle.layout.specs.Numbers.{number, Layout, width, reading, writing, rows_in};
 ghost use Rattle.layout.specs.Format.{key_new, row_fields, table_fields, content_fields};
-ghost use Rattle.std.proofs.Common.{rules};
 
 use crate::format::count_fields;
 use content::rows::{Read, Write};
@@ -78,7 +77,7 @@ pub trait Row: Copy {
 impl Row for Read {
     ghost layout = { reading };
 
-    ghost long = { Prim.search rules };
+    ghost long = { λ _. refl };
 
     fn blank() -> Self {
         Read {
@@ -117,7 +116,7 @@ impl Row for Read {
 impl Row for Write {
     ghost layout = { writing };
 
-    ghost long = { Prim.search rules };
+    ghost long = { λ _. refl };
 
     fn blank() -> Self {
         Write { key: 0, value: 0 }
@@ -179,7 +178,9 @@ fn key_is_new<T: Row>(rows: &[T], i: usize) -> bool
 
 // The fields of the i-th of the rows that begin at base.
 fn row_fields<T: Row>(rows: &[T], i: usize, base: usize, timestamp: Timestamp) -> [Field; 2]
-    requires { (i < length rows.now) × ((i < 4) × (base ≤ 55)) }
+    requires inside { i < length rows.now }
+    requires few { i < 4 }
+    requires near { base ≤ 55 }
     ensures { result ≡ row_fields T.Row.layout timestamp base rows.now i }
 {
     let place = base + (4 + T::rest()) * i;
@@ -204,7 +205,8 @@ fn check_rows<T: Row>(
     timestamp: Timestamp,
     size: usize,
 ) -> Result<(), Refusal>
-    requires { (length rows.now ≤ 4) × (base ≤ 55) }
+    requires few { length rows.now ≤ 4 }
+    requires near { base ≤ 55 }
     ensures { Checked size (table_fields T.Row.layout timestamp base rows.now) result }
 {
     for i in 0..rows.len() {

@@ -15,11 +15,11 @@ returns c =
     let lr = length_laid reading exact_read.long rs in
     let lw = length_laid writing exact_write.long ws in
     let la = length-append reads writes in
-    let second = c.to-be-bytes.result in
+    let second = c.to_be_bytes.result in
     let all =
     then_put 0 c.put-at.result second (counts ++ (reads ++ writes)) c.put-at.ensures.ends c.put-at.ensures.puts
     (then_put c.put-at.result c.put-at-2.result counts (reads ++ writes) c.put-at-2.ensures.ends c.put-at-2.ensures.puts
-    (then_put c.put-at-2.result c.put-rows-at.result reads writes (c.put-rows-at.ensures.ends ∙ ap (λ (k : ℕ). c.put-at-2.result + k) (sym lr)) c.put-rows-at.ensures.puts c.put-rows.ensures.puts)) in
-    let put = same_put (ap (λ (t : List ℕ). t ++ (counts ++ (reads ++ writes))) c.to-be-bytes.ensures) all in
+    (then_put c.put-at-2.result c.put_rows-at.result reads writes (c.put_rows-at.ensures.ends ∙ ap (λ (k : ℕ). c.put-at-2.result + k) (sym lr)) c.put_rows-at.ensures.puts c.put_rows.ensures.puts)) in
+    let put = same_put (ap (λ (t : List ℕ). t ++ (counts ++ (reads ++ writes))) c.to_be_bytes.ensures) all in
     let n : 6 + 9 * length rs + 8 * length ws ≡ 0 + length (big c.args.second ++ (counts ++ (reads ++ writes))) = omega arith in
-    (c.if-reads-gt4.false, c.if-writes-gt4.false, ap (λ (k : ℕ). take k c.put-rows.new.buf) n ∙ put.front)
+    (c.if-reads-gt4.false, c.if-writes-gt4.false, ap (λ (k : ℕ). take k c.put_rows.new.buf) n ∙ put.front)

@@ -5,17 +5,17 @@ use Rattle.layout.specs.Numbers.{reading, writing}
 use Rattle.layout.specs.Format.{count_fields, table_fields}
 use Rattle.layout.proofs.row.check_content.Goals as goal
 
-pub returns-in-err-check : goal.returns-in-err-check
-returns-in-err-check c =
-    let p = err_from_is_err_and c.from-residual.result c.from-residual.ensures.1 in
-    rw (p.1, p.2) (before _ (same_breaks c.count_fields.ensures c.in-err-check.ensures.verdict))
+pub returns-in_err-check : goal.returns-in_err-check
+returns-in_err-check c =
+    let p = err_from_is_err_and c.from_residual.result c.from_residual.ensures.1 in
+    rw (p.1, p.2) (before _ (same_breaks c.count_fields.ensures c.in_err-check.ensures.verdict))
 
-pub returns-in-err-check-rows : goal.returns-in-err-check-rows
-returns-in-err-check-rows c =
+pub returns-in_err-check_rows : goal.returns-in_err-check_rows
+returns-in_err-check_rows c =
     let n = c.args.size in
     let counts = count_fields (length c.args.reads.now) (length c.args.writes.now) in
-    let p = err_from_is_err_and c.from-residual-in-err-check-rows.result c.from-residual-in-err-check-rows.ensures.1 in
-    rw (p.1, p.2) (after counts (same_passes n c.count_fields.ensures c.in-ok-check.ensures.verdict) (before _ c.in-err-check-rows.ensures))
+    let p = err_from_is_err_and c.from_residual-in_err-check_rows.result c.from_residual-in_err-check_rows.ensures.1 in
+    rw (p.1, p.2) (after counts (same_passes n c.count_fields.ensures c.in_ok-check.ensures.verdict) (before _ c.in_err-check_rows.ensures))
 
 pub returns : goal.returns
 returns c =
@@ -25,6 +25,6 @@ returns c =
     let ws = c.args.writes.now in
     let reads = table_fields reading t 19 rs in
     let writes = table_fields writing t (19 + 9 * length rs) ws in
-    checked_after n (count_fields (length rs) (length ws)) (reads ++ writes) c.check-rows-2.result
-    (same_passes n c.count_fields.ensures c.in-ok-check.ensures.verdict)
-    (checked_after n reads writes c.check-rows-2.result c.in-ok-check-rows.ensures c.check-rows-2.ensures)
+    checked_after n (count_fields (length rs) (length ws)) (reads ++ writes) c.check_rows-2.result
+    (same_passes n c.count_fields.ensures c.in_ok-check.ensures.verdict)
+    (checked_after n reads writes c.check_rows-2.result c.in_ok-check_rows.ensures c.check_rows-2.ensures)
