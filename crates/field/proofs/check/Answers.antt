@@ -1,5 +1,4 @@
-use Rattle.std.proofs.Common.{◌≡◌, sym, arith, take_all, rules}
-use Rattle.field.specs.Layouts.{Passes}
+use Rattle.std.proofs.Common.{sym, take_all}
 use Rattle.field.proofs.Faults.{pass_more, break_at}
 use Rattle.field.proofs.Verdict.{one_verdict}
 use Rattle.field.proofs.check.Goals as goal
