@@ -1,17 +1,16 @@
 -- The frame of a lawful message passes, and that message stands in it.
-use Rattle.std.proofs.Common.{◌≡◌, ℕ, zero, suc, ◌+◌, ◌*◌, ◌<◌, ◌≤◌, Bool, true, false, cond, ◌&&◌, ◌||◌, eqb, leb, List, [], ◌∷◌, ◌++◌, length, get_or, take, drop, Some, None, Option, sym, refl, ap, ◌∙◌, subst, append-nil, mul-le-mul_left, mul-suc, arith, length-append, le-leb}
+use Rattle.std.proofs.Common.{◌≡◌, ℕ, suc, ◌+◌, ◌*◌, ◌≤◌, true, leb, List, [], ◌∷◌, ◌++◌, length, drop, Some, None, Option, sym, refl, ap, ◌∙◌, subst, append-nil, mul-le-mul_left, mul-suc, arith, length-append, le-leb}
 use lib.Seq.{drop-append_seam}
 use Rattle.values.specs.Times.{timestamp}
 use Rattle.values.specs.declared.timestamp.Timestamp.{Timestamp}
 use Rattle.field.specs.declared.Field.{Field}
-use Rattle.field.specs.Layouts.{holds, Passes, ranged, rows}
+use Rattle.field.specs.Layouts.{Passes}
 use Rattle.field.proofs.Faults.{pass_first, pass_last, pass_both, pass_whole, Ends, ends_both}
 use Rattle.field.proofs.Rows.{rows_end}
-use Rattle.layout.specs.declared.format.Header.{Header}
-use Rattle.layout.specs.Values.{Part, Value, flag, size}
+use Rattle.layout.specs.Values.{Part, Value, size}
 use Rattle.layout.specs.Numbers.{Layout, width, laid, rows_in, reading, writing}
 use Rattle.layout.specs.Format.{header_fields, count_fields, row_fields, table_fields, part_fields, header}
-use Rattle.layout.specs.Frames.{frame, part_bytes, FitsPart, Lawful, header_in, content_in, part_in, value_in, mark_fields, end_field, byte_fields}
+use Rattle.layout.specs.Frames.{frame, FitsPart, Lawful, part_in, value_in, mark_fields, byte_fields}
 use Rattle.layout.proofs.Rows.{number_big, exact_read, exact_write, rows_laid, length_laid}
 
 -- the message with another content

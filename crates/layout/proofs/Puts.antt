@@ -1,7 +1,7 @@
 -- One write after another.
-use Rattle.std.proofs.Common.{◌≡◌, ℕ, zero, suc, ◌+◌, ◌*◌, ◌<◌, ◌≤◌, List, [], ◌∷◌, ◌++◌, length, get_or, take, drop, sym, refl, ap, ◌∙◌, subst, mul-le-mul_left, mul-zero, mul-suc, add-one, arith}
+use Rattle.std.proofs.Common.{◌≡◌, ℕ, ◌+◌, ◌<◌, List, [], ◌∷◌, ◌++◌, length, get_or, take, drop, sym, refl, ap, ◌∙◌, subst, arith}
 use Rattle.std.proofs.lemmas.List.{length-append, append_assoc, append-nil, drop-drop, take_more}
-use Rattle.layout.specs.Numbers.{Layout, width, laid}
+use Rattle.layout.specs.Numbers.{Layout, laid}
 use Rattle.layout.specs.Puts.{Put}
 
 pub then_put : {b c d : List ℕ} (at next : ℕ) (xs ys : List ℕ) → next ≡ at + length xs → Put at xs b c → Put next ys c d → Put at (xs ++ ys) b d

@@ -1,10 +1,7 @@
 -- Rows and their bytes determine each other.
-use Rattle.std.proofs.Common.{◌≡◌, ℕ, zero, suc, ◌+◌, ◌*◌, ◌/◌, ◌%◌, ◌^◌, ◌<◌, ◌≤◌, List, [], ◌∷◌, ◌++◌, length, get_or, take, drop, sym, refl, ap, ◌∙◌, subst, append_assoc, append-nil, add_comm, suc-add, mul-zero, zero-add, mul-suc, arith, length-append, length-drop, get_or-drop}
+use Rattle.std.proofs.Common.{◌≡◌, ℕ, zero, suc, ◌+◌, ◌*◌, ◌/◌, ◌%◌, ◌^◌, ◌<◌, ◌≤◌, List, [], ◌∷◌, ◌++◌, length, get_or, take, drop, sym, refl, ap, ◌∙◌, append_assoc, suc-add, mul-zero, zero-add, mul-suc, arith, length-append, length-drop, get_or-drop}
 use native.Mathlib.Nat.{div-div-eq-div-mul}
-use lib.Seq.{drop-append_seam}
 use Rattle.values.specs.Times.{timestamp}
-use Rattle.content.specs.declared.rows.Read.{Read}
-use Rattle.content.specs.declared.rows.Write.{Write}
 use Rattle.layout.specs.Numbers.{big, number, Layout, width, reading, writing, laid, rows_in, Each}
 use Rattle.layout.specs.Frames.{FitRead, FitWrite}
 

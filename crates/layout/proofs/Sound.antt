@@ -1,18 +1,17 @@
 -- The rules of a content, field by field and as one test.
-use Rattle.std.proofs.Common.{◌≡◌, ℕ, zero, suc, ◌+◌, ◌*◌, ◌<◌, ◌≤◌, Bool, true, false, ◌&&◌, ◌||◌, leb, List, [], ◌∷◌, ◌++◌, length, get_or, Some, refl, mul-suc, arith, le-leb, leb-true}
+use Rattle.std.proofs.Common.{◌≡◌, ℕ, zero, suc, ◌+◌, ◌*◌, ◌<◌, ◌≤◌, true, ◌&&◌, ◌||◌, leb, List, ◌++◌, length, get_or, refl, mul-suc, arith, le-leb, leb-true}
 use Rattle.std.proofs.lemmas.Bool.{and_parts, and_from}
 use Rattle.std.proofs.lemmas.Bool.Decides.{nat_tests}
 use Rattle.values.specs.Times.{timestamp}
 use Rattle.values.specs.declared.timestamp.Timestamp.{Timestamp}
 use Rattle.content.specs.declared.rows.Read.{Read}
-use Rattle.content.specs.Rules.{unlike, differ, few, reads_before, read_keys, write_keys, no_read}
+use Rattle.content.specs.Rules.{unlike, differ, few, reads_before}
 use Rattle.content.proofs.Apart.{each_before}
 use Rattle.field.specs.declared.Field.{Field}
 use Rattle.field.specs.Layouts.{Passes, holds, rows}
 use Rattle.field.proofs.Faults.{pass_first, pass_last, pass_both}
-use Rattle.layout.specs.Values.{Part}
 use Rattle.layout.specs.Numbers.{Layout, width, reading, writing}
-use Rattle.layout.specs.Format.{count_fields, row_fields, table_fields, part_fields}
+use Rattle.layout.specs.Format.{count_fields, row_fields, table_fields}
 use Rattle.layout.specs.Laws.{ContentRules}
 
 good : (n : ℕ) (f : Field) → holds n f ≡ true → f.good ≡ true

@@ -1,5 +1,5 @@
 -- Reading a table of rows, and looking for a key again.
-use Rattle.std.proofs.Common.{◌≡◌, ℕ, zero, suc, ◌+◌, ◌*◌, ◌<◌, ◌≤◌, Bool, true, false, List, [], ◌∷◌, ◌++◌, length, get_or, take, drop, set, sym, refl, ap, ◌∙◌, subst, mul-zero, mul-suc, add-one, arith, drop-drop}
+use Rattle.std.proofs.Common.{◌≡◌, ℕ, zero, suc, ◌+◌, ◌*◌, ◌<◌, true, false, List, [], ◌∷◌, ◌++◌, length, get_or, take, drop, set, sym, refl, ap, ◌∙◌, mul-zero, mul-suc, add-one, arith, drop-drop}
 use Rattle.std.proofs.lemmas.List.{get_or_read, take_more_set}
 use Rattle.content.specs.Rules.{unlike}
 use Rattle.content.proofs.Apart.{unlike_met, unlike_more}

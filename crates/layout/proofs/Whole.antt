@@ -1,19 +1,18 @@
 -- Bytes whose fields all pass are the frame of the message that stands in them.
-use Rattle.std.proofs.Common.{◌≡◌, ℕ, zero, suc, ◌+◌, ◌-◌, ◌*◌, ◌<◌, ◌≤◌, Bool, true, false, cond, ◌&&◌, ◌||◌, eqb, leb, ◌⊎◌, List, [], ◌∷◌, ◌++◌, length, get_or, take, drop, Some, None, Option, sym, refl, ap, ◌∙◌, subst, inl, inr, append-nil, mul-zero, mul-suc, arith, length-drop, take-append-drop, get_or-drop, take_all, drop-drop, eqb-true, leb-true}
+use Rattle.std.proofs.Common.{◌≡◌, ℕ, zero, suc, ◌+◌, ◌*◌, ◌≤◌, Bool, true, false, cond, ◌||◌, eqb, leb, List, [], ◌∷◌, ◌++◌, length, get_or, take, drop, Some, None, sym, refl, ap, ◌∙◌, subst, mul-zero, mul-suc, arith, length-drop, take-append-drop, get_or-drop, take_all, drop-drop, eqb-true, leb-true}
 use mathlib.Core.Path.{fun_ext}
 use borrow.Author.Tests.{eqb-false}
 use Rattle.std.proofs.lemmas.List.{drop_all}
 use Rattle.std.proofs.lemmas.Bool.{and_parts}
 use Rattle.values.specs.Times.{timestamp}
 use Rattle.values.specs.declared.timestamp.Timestamp.{Timestamp}
-use Rattle.field.specs.declared.Field.{Field}
 use Rattle.field.specs.Layouts.{holds, Passes, ranged, rows}
 use Rattle.field.proofs.Faults.{pass_first, pass_last, pass_both, pass_longer, reach}
 use Rattle.layout.specs.declared.format.KindRules.{KindRules}
 use Rattle.layout.specs.declared.format.Header.{Header}
-use Rattle.layout.specs.Values.{Part, Value, flag, size}
-use Rattle.layout.specs.Numbers.{big, number, Layout, width, laid, rows_in, reading, writing, Each}
-use Rattle.layout.specs.Format.{rules, content_limits, header_fields, count_fields, row_fields, table_fields, part_fields, header, value_fields}
+use Rattle.layout.specs.Values.{Part, flag, size}
+use Rattle.layout.specs.Numbers.{Layout, width, laid, rows_in, reading, writing}
+use Rattle.layout.specs.Format.{rules, content_limits, header_fields, count_fields, row_fields, table_fields, part_fields, header}
 use Rattle.layout.specs.Frames.{frame, part_bytes, FitsPart, Lawful, header_in, content_in, part_in, value_in, mark_fields, end_field, byte_fields}
 use Rattle.layout.proofs.Rows.{Bytes, drop_bytes, listed, firsts, big_number, number_fits, exact_read, exact_write, length_rows, laid_rows, rows_fit}
 

@@ -1,5 +1,5 @@
 -- The frame of a message, and what bytes say.
-use Rattle.std.specs.Prelude.{◌≡◌, ℕ, ◌+◌, ◌*◌, ◌^◌, ◌<◌, Bool, true, false, cond, ◌&&◌, List, [], ◌∷◌, ◌++◌, length, drop, Some, None, Option, ◌==◌, nat_le, slice_index}
+use Rattle.std.specs.Prelude.{ℕ, ◌*◌, ◌^◌, ◌<◌, cond, ◌&&◌, List, [], ◌∷◌, ◌++◌, length, drop, Some, None, Option, ◌==◌, nat_le, slice_index}
 use Rattle.content.specs.declared.rows.Read.{Read}
 use Rattle.content.specs.declared.rows.Write.{Write}
 use Rattle.field.specs.declared.Field.{Field}

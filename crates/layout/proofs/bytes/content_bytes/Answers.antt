@@ -1,6 +1,5 @@
-use Rattle.std.proofs.Common.{◌≡◌, ℕ, ◌+◌, ◌*◌, List, [], ◌∷◌, ◌++◌, length, take, sym, ap, ◌∙◌, arith, length-append, rules}
+use Rattle.std.proofs.Common.{◌≡◌, ℕ, ◌+◌, ◌*◌, List, [], ◌∷◌, ◌++◌, length, take, sym, ap, ◌∙◌, arith, length-append}
 use Rattle.layout.specs.Numbers.{big, laid, reading, writing}
-use Rattle.layout.specs.Puts.{Put}
 use Rattle.layout.proofs.Rows.{exact_read, exact_write, length_laid}
 use Rattle.layout.proofs.Puts.{then_put, same_put}
 use Rattle.layout.proofs.bytes.content_bytes.Goals as goal

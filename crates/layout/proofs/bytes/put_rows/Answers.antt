@@ -1,7 +1,6 @@
-use Rattle.std.proofs.Common.{◌≡◌, ℕ, suc, ◌+◌, ◌-◌, ◌*◌, ◌<◌, ◌≤◌, List, ◌++◌, length, take, sym, ap, ◌∙◌, mul-le-mul_left, mul-zero, mul-suc, add-one, arith, length-take-le, take_all, rules}
+use Rattle.std.proofs.Common.{◌≡◌, ℕ, suc, ◌+◌, ◌-◌, ◌*◌, ◌≤◌, ◌++◌, length, take, sym, ap, ◌∙◌, mul-le-mul_left, mul-zero, mul-suc, add-one, arith, length-take-le, take_all}
 use native.Mathlib.Nat.{sub-zero}
 use Rattle.layout.specs.Numbers.{width, laid}
-use Rattle.layout.specs.Puts.{Put}
 use Rattle.layout.proofs.Rows.{length_laid}
 use Rattle.layout.proofs.Puts.{then_put, no_put, same_put, laid_next}
 use Rattle.layout.proofs.bytes.put_rows.Goals as goal

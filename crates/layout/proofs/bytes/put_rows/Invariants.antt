@@ -1,4 +1,4 @@
-use Rattle.std.proofs.Common.{◌≡◌, ◌+◌, ◌*◌, length, take}
+use Rattle.std.proofs.Common.{◌≡◌, ◌+◌, ◌*◌, take}
 use Rattle.layout.specs.Numbers.{width, laid}
 use Rattle.layout.specs.Puts.{Put}
 use Rattle.layout.proofs.bytes.put_rows.Given as goal

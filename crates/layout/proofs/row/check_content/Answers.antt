@@ -1,4 +1,4 @@
-use Rattle.std.proofs.Common.{◌+◌, ◌*◌, ◌++◌, length, rules}
+use Rattle.std.proofs.Common.{◌+◌, ◌*◌, ◌++◌, length}
 use Rattle.std.proofs.lemmas.Result.{err_from_is_err_and}
 use Rattle.field.proofs.Faults.{before, after, same_breaks, same_passes, checked_after}
 use Rattle.layout.specs.Numbers.{reading, writing}

@@ -1,4 +1,3 @@
-use Rattle.std.proofs.Common.{rules}
 use Rattle.layout.proofs.Tables.{key_met, key_not_met}
 use Rattle.layout.proofs.row.key_is_new.Goals as goal
 

@@ -1,4 +1,4 @@
-use Rattle.std.proofs.Common.{◌<◌, length, arith, length-set, rules}
+use Rattle.std.proofs.Common.{◌<◌, length, arith, length-set}
 use Rattle.layout.proofs.Tables.{row_read, row_passed}
 use Rattle.layout.proofs.row.rows_in.Goals as goal
 
