@@ -61,9 +61,9 @@ pub enum Either<L, R> {
 }
 
 impl<L: Store, R: Store> Store for Either<L, R> {
-    ghost table = { either_table L.Store.table R.Store.table };
+    ghost table = { either_table L.table R.table };
 
-    ghost counted = { elim [ Left s ↦ L.Store.counted s | Right s ↦ R.Store.counted s ] };
+    ghost counted = { elim [ Left s ↦ L.counted s | Right s ↦ R.counted s ] };
 
     fn get(&self, key: u32) -> Row {
         match self {
