@@ -1,2 +1,4 @@
 pub mod Firsts
 pub mod Placing
+pub mod Probing
+pub mod Storing

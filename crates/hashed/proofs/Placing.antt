@@ -8,8 +8,8 @@ use Rattle.hashed.specs.declared.table.Hashed.{Hashed}
 use Rattle.hashed.specs.Places.{at, keyed, row_at, find, place_of}
 use Rattle.hashed.specs.Laws.{HashedLaws}
 use Rattle.hashed.proofs.Firsts.{all_bits}
-use Rattle.hashed.specs.Probing.{searched}
-use Rattle.hashed.specs.Storing.{found}
+use Rattle.hashed.proofs.Probing.{searched}
+use Rattle.hashed.proofs.Storing.{found}
 
 holds : (h : Hashed) (i k : ℕ) (v : Row) → at h.slots i ≡ Holds k v → (find h.slots k ≡ Some v) × (i ≡ place_of h.slots k)
 holds h i k v e =

@@ -6,7 +6,7 @@ ghost use Rattle.store.specs.Table.{Made};
 ghost use Rattle.hashed.specs.declared.slot.Slot.TheVariants.{Holds};
 ghost use Rattle.hashed.specs.Places.{home_of, place_of};
 ghost use Rattle.hashed.specs.Means.{hashed_table};
-ghost use Rattle.hashed.specs.Storing.{counts};
+ghost use Rattle.hashed.specs.Counts.{counts};
 
 pub mod laws;
 pub mod slot;
@@ -76,7 +76,7 @@ impl Hashed {
 impl Store for Hashed {
     ghost table = { hashed_table };
 
-    ghost counted = { λ s. counts s.slots s.held s.capacity s.reached s.counts s.bound.0 s.bound.1 s.bound.2 };
+    ghost counted = { counts };
 
     fn get(&self, key: u32) -> Row {
         self.find(key).unwrap_or(Row::null())

@@ -1,35 +1,35 @@
 use Rattle.std.proofs.Common.{sym, rules}
-use Rattle.hashed.specs.Storing.{spot, refuses, adds, adds_kept, changes, changes_kept}
+use Rattle.hashed.proofs.Storing.{spot, refuses, adds, adds_kept, changes, changes_kept}
 use Rattle.hashed.proofs.HashedStore.put.Goals as goal
 
-pub invariant-of-self : goal.invariant-of-self
-invariant-of-self c =
+pub invariant_of-self : goal.invariant_of-self
+invariant_of-self c =
     let s = c.args.self.now in
     let w = spot s c.args.key c.place-p.result (search rules) c.place-p.ensures.ends in
-    let after = changes_kept w s.held s.capacity c.args.row c.write.ensures (sym c.if-not-is-empty.ensures) s.counts in
-    (after.0, (after.1, (s.bound, tt)))
+    let after = changes_kept w s.held s.capacity c.args.row c.write.ensures (sym c.if-not-is_empty.ensures) s.counts in
+    record { reached = after.0; counts = after.1; bound = s.bound }
 
-pub returns-then-not-is-empty : goal.returns-then-not-is-empty
-returns-then-not-is-empty c =
+pub returns-then-not-is_empty : goal.returns-then-not-is_empty
+returns-then-not-is_empty c =
     let s = c.args.self.now in
     let w = spot s c.args.key c.place-p.result (search rules) c.place-p.ensures.ends in
-    changes w s.held s.capacity c.args.row c.write.ensures (sym c.if-not-is-empty.ensures)
+    changes w s.held s.capacity c.args.row c.write.ensures (sym c.if-not-is_empty.ensures)
 
 pub returns-then-self : goal.returns-then-self
 returns-then-self c =
     let s = c.args.self.now in
     let w = spot s c.args.key c.place-p.result (search rules) c.place-p.ensures.ends in
-    refuses w s.held s.capacity c.args.row (sym c.if-not-is-empty.ensures) c.if-self.true
+    refuses w s.held s.capacity c.args.row (sym c.if-not-is_empty.ensures) c.if-self.true
 
-pub invariant-of-self-2 : goal.invariant-of-self-2
-invariant-of-self-2 c =
+pub invariant_of-self-2 : goal.invariant_of-self-2
+invariant_of-self-2 c =
     let s = c.args.self.now in
     let w = spot s c.args.key c.place-p.result (search rules) c.place-p.ensures.ends in
-    let after = adds_kept w s.held s.capacity c.args.row c.write-2.ensures (sym c.if-not-is-empty.ensures) s.counts in
-    (after.0, (after.1, (search rules, tt)))
+    let after = adds_kept w s.held s.capacity c.args.row c.write-2.ensures (sym c.if-not-is_empty.ensures) s.counts in
+    record { reached = after.0; counts = after.1; bound = search rules }
 
 pub returns : goal.returns
 returns c =
     let s = c.args.self.now in
     let w = spot s c.args.key c.place-p.result (search rules) c.place-p.ensures.ends in
-    adds w s.held s.capacity c.args.row c.write-2.ensures (sym c.if-not-is-empty.ensures) c.if-self.false
+    adds w s.held s.capacity c.args.row c.write-2.ensures (sym c.if-not-is_empty.ensures) c.if-self.false

@@ -1,16 +1,15 @@
 -- What a search finds, and what a put does to the table.
-use Rattle.std.specs.Prelude.{◌≡◌, ℕ, zero, suc, ◌+◌, ◌-◌, ◌<◌, ◌≤◌, true, false, cond, ◌≢◌, ◌⊎◌, List, [], ◌∷◌, length, replicate, is_some, Some, None, Ok, Err, Option, ◌==◌, nat_eq, slice_set, refl}
-use Rattle.std.proofs.Common.{sym, ap, subst, ◌∙◌, inl, inr, arith}
+use Rattle.std.proofs.Common.{◌≡◌, ℕ, zero, suc, ◌+◌, ◌-◌, ◌<◌, ◌≤◌, true, false, cond, eqb, ◌≢◌, ◌⊎◌, List, [], ◌∷◌, length, set, replicate, is_some, Some, None, Ok, Err, Option, refl, sym, ap, subst, ◌∙◌, inl, inr, arith}
 use Rattle.std.proofs.lemmas.Bool.{both_ways, cases_eq, cases_Bool, eqb-true, eq-eqb, ne_eqb}
 use Rattle.store.specs.declared.Row.{Row}
-use Rattle.store.specs.Table.{Table, Put, Counted, times, with_row}
+use Rattle.store.specs.Table.{Table, Put, with_row}
 use Rattle.store.proofs.Puts.{put_again, put_new, put_full}
 use Rattle.values.specs.declared.refusal.Refusal.TheVariants.{StoreFull}
 use Rattle.hashed.specs.declared.slot.Slot.{Slot}
 use Rattle.hashed.specs.declared.table.Hashed.{Hashed}
 use Rattle.hashed.specs.declared.slot.Slot.TheVariants.{Empty, Holds}
 use Rattle.hashed.specs.Places.{row_at, vacant, at, keyed, stops, seek, find, taken, Reached, place_of, home_of}
-use Rattle.hashed.specs.Probing.{set_here, set_there, set_reached, find_none, find_some, find_other, searched, place_stops, taken_again, taken_new}
+use Rattle.hashed.proofs.Probing.{set_here, set_there, set_reached, find_none, find_some, find_other, searched, place_stops, taken_again, taken_new}
 
 -- no place but that where the search ends has the key
 elsewhere : (xs : List Slot) (k i : ℕ) → Reached xs → i ≢ place_of xs k → keyed (at xs i) k ≡ false
@@ -33,35 +32,35 @@ found xs k r = go (at xs (place_of xs k)) refl
 
     go : (s : Slot) → at xs (place_of xs k) ≡ s → find xs k ≡ row_at s k
     go Empty e = nowhere (rw e refl)
-    go (Holds j v) e = ways (cases_Bool (j == k))
+    go (Holds j v) e = ways (cases_Bool (eqb j k))
       where
-        ways : ((j == k) ≡ true) ⊎ ((j == k) ≡ false) → find xs k ≡ row_at (Holds j v) k
+        ways : (eqb j k ≡ true) ⊎ (eqb j k ≡ false) → find xs k ≡ row_at (Holds j v) k
         ways (inl t) =
             let same : j ≡ k = eqb-true j k t in
             let here : at xs (place_of xs k) ≡ Holds k v = e ∙ ap (λ x. Holds x v) same in
             rw t (find_some xs (place_of xs k) k v here (λ i l. elsewhere xs k i r (λ q. absurd (omega arith))))
         ways (inr f) = rw f (nowhere (rw e f))
 
-unkeyed : (s : Slot) (k q : ℕ) → stops s k ≡ true → (q == k) ≡ false → keyed s q ≡ false
+unkeyed : (s : Slot) (k q : ℕ) → stops s k ≡ true → eqb q k ≡ false → keyed s q ≡ false
 unkeyed Empty k q t f = refl
 unkeyed (Holds j v) k q t f =
-    ne_eqb j q (λ e. both_ways (q == k) f (eq-eqb q k (sym e ∙ eqb-true j k t)))
+    ne_eqb j q (λ e. both_ways (eqb q k) f (eq-eqb q k (sym e ∙ eqb-true j k t)))
 
 module _ (xs : List Slot) (p k : ℕ) (v : Row) (within : p < length xs) (free : stops (at xs p) k ≡ true) (r : Reached xs) (here : place_of xs k ≡ p) where
-  find_put : (q : ℕ) → find (slice_set xs p (Holds k v)) q ≡ with_row (find xs) k v q
-  find_put q = go (cases_Bool (q == k))
+  find_put : (q : ℕ) → find (set xs p (Holds k v)) q ≡ with_row (find xs) k v q
+  find_put q = go (cases_Bool (eqb q k))
     where
-      after : Reached (slice_set xs p (Holds k v))
+      after : Reached (set xs p (Holds k v))
       after = set_reached xs p k v within free r here
 
-      at_end : place_of (slice_set xs p (Holds k v)) k ≡ p
+      at_end : place_of (set xs p (Holds k v)) k ≡ p
       at_end = after p k (rw (set_here xs p k v within free) (eq-eqb k k refl))
 
-      go : ((q == k) ≡ true) ⊎ ((q == k) ≡ false) → find (slice_set xs p (Holds k v)) q ≡ with_row (find xs) k v q
+      go : (eqb q k ≡ true) ⊎ (eqb q k ≡ false) → find (set xs p (Holds k v)) q ≡ with_row (find xs) k v q
       go (inl t) =
           let same : q ≡ k = eqb-true q k t in
-          rw (t, same) (find_some (slice_set xs p (Holds k v)) p k v (set_here xs p k v within free)
-          (λ i l. elsewhere (slice_set xs p (Holds k v)) k i after (λ e. absurd (omega (arith, at_end)))))
+          rw (t, same) (find_some (set xs p (Holds k v)) p k v (set_here xs p k v within free)
+          (λ i l. elsewhere (set xs p (Holds k v)) k i after (λ e. absurd (omega (arith, at_end)))))
       go (inr f) = rw f (find_other xs p k q v f (unkeyed (at xs p) k q free f))
 
 pub when_vacant : (s : Slot) → vacant s ≡ true → s ≡ Empty
@@ -106,7 +105,7 @@ module _ {xs : List Slot} {k p : ℕ} (w : Spot xs k p) (n most : ℕ) (v : Row)
   refuses e l = put_full (table xs n most) k v (absent e) l
 
   -- the places once the row is written there
-  module _ {ys : List Slot} (written : ys ≡ slice_set xs p (Holds k v)) where
+  module _ {ys : List Slot} (written : ys ≡ set xs p (Holds k v)) where
     reached : Reached ys
     reached = subst Reached (sym written) (set_reached xs p k v (omega arith) ends w.reached (sym w.here))
 
@@ -135,52 +134,6 @@ spot s k p size here =
     let few : taken s.slots < 128 = omega (arith, s.counts, s.bound.0, s.bound.2) in
     let at_end : place_of s.slots k < 128 = omega (arith, (searched s.slots k few).place) in
     record { size = size; reached = s.reached; few = few; here = here; within = omega arith }
-
--- the keys that are held, by place
-abbrev keys : List Slot → List ℕ
-keys [] = []
-keys (Empty ∷ xs) = keys xs
-keys (Holds k v ∷ xs) = k ∷ keys xs
-
-length_keys : (xs : List Slot) → taken xs ≡ length (keys xs)
-length_keys [] = refl
-length_keys (Empty ∷ xs) = length_keys xs
-length_keys (Holds k v ∷ xs) = let e = length_keys xs in omega arith
-
-no_times : (xs : List Slot) (q : ℕ) → ((i : ℕ) → keyed (at xs i) q ≡ false) → times q (keys xs) ≡ 0
-no_times [] q h = refl
-no_times (Empty ∷ xs) q h = no_times xs q (λ i. h (suc i))
-no_times (Holds j v ∷ xs) q h =
-    let e : nat_eq q j ≡ false = ne_eqb q j (λ e. both_ways (j == q) (h 0) (eq-eqb j q (sym e))) in
-    let t = no_times xs q (λ i. h (suc i)) in
-    rw e (omega arith)
-
--- a key that is at one place at most is counted once or not at all
-once : (xs : List Slot) (q : ℕ) → ((i j : ℕ) → keyed (at xs i) q ≡ true → keyed (at xs j) q ≡ true → i ≡ j) → times q (keys xs) ≡ cond (is_some (find xs q)) 1 0
-once [] q h = refl
-once (Empty ∷ xs) q h = once xs q (λ i j a b. let e : suc i ≡ suc j = h (suc i) (suc j) a b in omega arith)
-once (Holds k v ∷ xs) q h =
-    go (cases_Bool (q == k)) (once xs q (λ i j a b. let e : suc i ≡ suc j = h (suc i) (suc j) a b in omega arith))
-  where
-    rest : nat_eq q k ≡ true → (i : ℕ) → keyed (at xs i) q ≡ false
-    rest t i = ways (cases_Bool (keyed (at xs i) q))
-      where
-        ways : (keyed (at xs i) q ≡ true) ⊎ (keyed (at xs i) q ≡ false) → keyed (at xs i) q ≡ false
-        ways (inl a) = let e : 0 ≡ suc i = h 0 (suc i) (eq-eqb k q (sym (eqb-true q k t))) a in absurd (omega arith)
-        ways (inr f) = f
-
-    go : ((q == k) ≡ true) ⊎ ((q == k) ≡ false) → times q (keys xs) ≡ cond (is_some (find xs q)) 1 0 → times q (keys (Holds k v ∷ xs)) ≡ cond (is_some (find (Holds k v ∷ xs) q)) 1 0
-    go (inl t) e = let z = no_times xs q (rest t) in rw t (omega arith)
-    go (inr f) e = rw f (omega arith)
-
-pub counts : (xs : List Slot) (n most : ℕ) → Reached xs → n ≡ taken xs → n ≤ most → 1 ≤ most → most ≤ 64 → Counted (table xs n most)
-counts xs n most r e l a b = record {
-  keys = keys xs;
-  held = e ∙ length_keys xs;
-  once = λ q. once xs q (λ i j s t. sym (r i q s) ∙ r j q t);
-  bound = l;
-  small = (a, b);
-}
 
 pub none_reached : (i k : ℕ) → keyed (at (replicate 128 Empty) i) k ≡ true → place_of (replicate 128 Empty) k ≡ i
 none_reached i k h = absurd (both_ways (keyed (at (replicate 128 Empty) i) k) (blank 128 i k) h)

@@ -1,6 +1,5 @@
 -- Searches among the places, one step on and after a slot is set.
-use Rattle.std.specs.Prelude.{◌≡◌, ℕ, zero, suc, ◌+◌, ◌-◌, ◌*◌, ◌/◌, ◌%◌, ◌<◌, ◌≤◌, Bool, true, false, cond, ◌≢◌, ◌⊎◌, List, [], ◌∷◌, length, set, Some, None, Option, ◌==◌, nat_eq, slice_set, refl}
-use Rattle.std.proofs.Common.{sym, ap, ◌∙◌, subst, inl, inr, arith}
+use Rattle.std.proofs.Common.{◌≡◌, ℕ, zero, suc, ◌+◌, ◌-◌, ◌*◌, ◌/◌, ◌%◌, ◌<◌, ◌≤◌, Bool, true, false, cond, eqb, ◌≢◌, ◌⊎◌, List, [], ◌∷◌, length, set, Some, None, Option, refl, sym, ap, ◌∙◌, subst, inl, inr, arith}
 use Rattle.std.proofs.lemmas.List.{get_or-set_same, get_or-set_other}
 use Rattle.std.proofs.lemmas.Bool.{both_ways, cases_eq, cases_lt, cases_Bool, eqb-true, eq-eqb, ne_eqb}
 use Rattle.store.specs.declared.Row.{Row}
@@ -50,31 +49,31 @@ kept xs xs' j still (suc n) s i e h = go (λ d. kept xs xs' j still n ((s + 1) %
 
 -- a slot is set at the place p, that was empty or had key k
 module _ (xs : List Slot) (p k : ℕ) (v : Row) (within : p < length xs) (free : stops (at xs p) k ≡ true) where
-  pub set_here : at (slice_set xs p (Holds k v)) p ≡ Holds k v
+  pub set_here : at (set xs p (Holds k v)) p ≡ Holds k v
   set_here = get_or-set_same xs p (Holds k v) Empty within
 
-  pub set_there : (i : ℕ) → i ≢ p → at (slice_set xs p (Holds k v)) i ≡ at xs i
+  pub set_there : (i : ℕ) → i ≢ p → at (set xs p (Holds k v)) i ≡ at xs i
   set_there i ne = get_or-set_other xs p i (Holds k v) Empty ne
 
   -- what the slot at p was
-  was : (s : Slot) (j : ℕ) → stops s k ≡ true → stops s j ≡ false → (k == j) ≡ false
+  was : (s : Slot) (j : ℕ) → stops s k ≡ true → stops s j ≡ false → eqb k j ≡ false
   was Empty j t f = absurd (both_ways true f refl)
   was (Holds i w) j t f = let e : i ≡ k = eqb-true i k t in rw (sym e) f
 
-  set_still : (j s : ℕ) → stops (at xs s) j ≡ false → stops (at (slice_set xs p (Holds k v)) s) j ≡ false
+  set_still : (j s : ℕ) → stops (at xs s) j ≡ false → stops (at (set xs p (Holds k v)) s) j ≡ false
   set_still j s f = go (cases_eq s p)
     where
-      go : (s ≡ p) ⊎ (s ≢ p) → stops (at (slice_set xs p (Holds k v)) s) j ≡ false
+      go : (s ≡ p) ⊎ (s ≢ p) → stops (at (set xs p (Holds k v)) s) j ≡ false
       go (inl e) = rw (e, set_here) (was (at xs p) j free (rw e at f))
       go (inr ne) = rw (set_there s ne) f
 
-  pub set_reached : Reached xs → place_of xs k ≡ p → Reached (slice_set xs p (Holds k v))
-  set_reached r e i j h = kept xs (slice_set xs p (Holds k v)) j (set_still j) 128 (home_of j) i (go (cases_eq i p)) h
+  pub set_reached : Reached xs → place_of xs k ≡ p → Reached (set xs p (Holds k v))
+  set_reached r e i j h = kept xs (set xs p (Holds k v)) j (set_still j) 128 (home_of j) i (go (cases_eq i p)) h
     where
       go : (i ≡ p) ⊎ (i ≢ p) → place_of xs j ≡ i
       go (inl q) =
-          let t : keyed (at (slice_set xs p (Holds k v)) p) j ≡ true = rw q at h in
-          let u : nat_eq k j ≡ true = rw set_here at t in
+          let t : keyed (at (set xs p (Holds k v)) p) j ≡ true = rw q at h in
+          let u : eqb k j ≡ true = rw set_here at t in
           let same : k ≡ j = eqb-true k j u in
           rw (sym same, q) e
       go (inr ne) = r i j (rw (set_there i ne) at h)
@@ -84,7 +83,7 @@ pub find_none : (xs : List Slot) (q : ℕ) → ((i : ℕ) → keyed (at xs i) q 
 find_none [] q h = refl
 find_none (Empty ∷ xs) q h = find_none xs q (λ i. h (suc i))
 find_none (Holds j v ∷ xs) q h =
-    let e : nat_eq q j ≡ false = ne_eqb q j (λ e. both_ways (j == q) (h 0) (eq-eqb j q (sym e))) in
+    let e : eqb q j ≡ false = ne_eqb q j (λ e. both_ways (eqb j q) (h 0) (eq-eqb j q (sym e))) in
     rw e (find_none xs q (λ i. h (suc i)))
 
 pub find_some : (xs : List Slot) (p q : ℕ) (v : Row) → at xs p ≡ Holds q v → ((i : ℕ) → i < p → keyed (at xs i) q ≡ false) → find xs q ≡ Some v
@@ -93,26 +92,26 @@ find_some (Empty ∷ xs) zero q v e h = let z : ◌≡◌ {A = ℕ} 0 1 = cc in 
 find_some (Holds j w ∷ xs) zero q v e h = let a : j ≡ q = cc in let b : w ≡ v = cc in rw (eq-eqb q j (sym a), b) refl
 find_some (Empty ∷ xs) (suc p) q v e h = find_some xs p q v e (λ i l. h (suc i) (omega arith))
 find_some (Holds j w ∷ xs) (suc p) q v e h =
-    let n : nat_eq q j ≡ false = ne_eqb q j (λ e. both_ways (j == q) (h 0 (omega arith)) (eq-eqb j q (sym e))) in
+    let n : eqb q j ≡ false = ne_eqb q j (λ e. both_ways (eqb j q) (h 0 (omega arith)) (eq-eqb j q (sym e))) in
     rw n (find_some xs p q v e (λ i l. h (suc i) (omega arith)))
 
-pub find_other : (xs : List Slot) (p k q : ℕ) (v : Row) → (q == k) ≡ false → keyed (at xs p) q ≡ false → find (slice_set xs p (Holds k v)) q ≡ find xs q
+pub find_other : (xs : List Slot) (p k q : ℕ) (v : Row) → eqb q k ≡ false → keyed (at xs p) q ≡ false → find (set xs p (Holds k v)) q ≡ find xs q
 find_other [] p k q v n h = refl
 find_other (Empty ∷ xs) zero k q v n h = rw n refl
 find_other (Holds j w ∷ xs) zero k q v n h =
-    let e : nat_eq q j ≡ false = ne_eqb q j (λ e. both_ways (j == q) h (eq-eqb j q (sym e))) in
+    let e : eqb q j ≡ false = ne_eqb q j (λ e. both_ways (eqb j q) h (eq-eqb j q (sym e))) in
     rw (n, e) refl
 find_other (Empty ∷ xs) (suc p) k q v n h = find_other xs p k q v n h
-find_other (Holds j w ∷ xs) (suc p) k q v n h = ap (λ r. cond (q == j) (Some w) r) (find_other xs p k q v n h)
+find_other (Holds j w ∷ xs) (suc p) k q v n h = ap (λ r. cond (eqb q j) (Some w) r) (find_other xs p k q v n h)
 
-pub taken_again : (xs : List Slot) (p k : ℕ) (v : Row) → keyed (at xs p) k ≡ true → taken (slice_set xs p (Holds k v)) ≡ taken xs
+pub taken_again : (xs : List Slot) (p k : ℕ) (v : Row) → keyed (at xs p) k ≡ true → taken (set xs p (Holds k v)) ≡ taken xs
 taken_again [] p k v h = refl
 taken_again (Empty ∷ xs) zero k v h = absurd (both_ways false refl h)
 taken_again (Holds j w ∷ xs) zero k v h = refl
 taken_again (Empty ∷ xs) (suc p) k v h = taken_again xs p k v h
 taken_again (Holds j w ∷ xs) (suc p) k v h = ap (λ n. n + 1) (taken_again xs p k v h)
 
-pub taken_new : (xs : List Slot) (p k : ℕ) (v : Row) → p < length xs → at xs p ≡ Empty → taken (slice_set xs p (Holds k v)) ≡ taken xs + 1
+pub taken_new : (xs : List Slot) (p k : ℕ) (v : Row) → p < length xs → at xs p ≡ Empty → taken (set xs p (Holds k v)) ≡ taken xs + 1
 taken_new [] p k v l e = absurd (omega arith)
 taken_new (Empty ∷ xs) zero k v l e = refl
 taken_new (Holds j w ∷ xs) zero k v l e = let z : ◌≡◌ {A = ℕ} 0 1 = cc in absurd (omega arith)
