@@ -1,1 +1,3 @@
+pub mod Descents
+pub mod Growing
 pub mod Ordering

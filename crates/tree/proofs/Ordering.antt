@@ -6,8 +6,9 @@ use Rattle.tree.specs.declared.arena.Tree.{Tree}
 use Rattle.tree.specs.declared.node.Node.{Node}
 use Rattle.tree.specs.Nodes.{at, find, Leads}
 use Rattle.tree.specs.Laws.{Ended, TreeLaws}
-use Rattle.tree.specs.Descents.{ended, descent, own_way, one_node}
-use Rattle.tree.specs.Growing.{find_some}
+use Rattle.tree.specs.Counts.{one_node}
+use Rattle.tree.proofs.Descents.{ended, descent, own_way}
+use Rattle.tree.proofs.Growing.{find_some}
 
 search_end : (t : Tree) (k : ℕ) → 0 < t.held → (p : ℕ) × (p < t.held) × Leads t.nodes k 0 p × Ended (at t.nodes p) k
 search_end t k a =
@@ -15,7 +16,7 @@ search_end t k a =
     (d.0, d.1.within, d.1.path, ended (at t.nodes d.0) k d.1.ends)
 
 holds : (t : Tree) (i : ℕ) → i < t.held → find t.nodes t.held (at t.nodes i).key ≡ Some (at t.nodes i).row
-holds t i a = find_some t.nodes t.held i (at t.nodes i).key a refl (λ j b e. one_node t.nodes t.held t.linked t.reached j i b a e)
+holds t i a = find_some t.nodes t.held i (at t.nodes i).key a refl (λ j b e. one_node t.nodes t.held t.reached j i b a e)
 
 -- what a look at each node finds stands at one of them
 stands : (xs : List Node) (n k : ℕ) (v : Row) → find xs n k ≡ Some v → (i : ℕ) × (i < n) × ((at xs i).key ≡ k) × ((at xs i).row ≡ v)

@@ -1,5 +1,4 @@
+pub mod Counts
 pub mod Laws
 pub mod Means
 pub mod Nodes
-pub mod Growing
-pub mod Descents

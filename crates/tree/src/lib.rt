@@ -5,7 +5,7 @@ ghost use Rattle.std.specs.Prelude.{◌≡◌, ℕ, ◌<◌};
 ghost use Rattle.store.specs.Table.{Made};
 ghost use Rattle.tree.specs.Nodes.{changed, grown, Descent};
 ghost use Rattle.tree.specs.Means.{tree_table};
-ghost use Rattle.tree.specs.Growing.{counts};
+ghost use Rattle.tree.specs.Counts.{counts};
 
 pub mod arena;
 pub mod laws;
@@ -78,7 +78,7 @@ impl Tree {
 impl Store for Tree {
     ghost table = { tree_table };
 
-    ghost counted = { λ s. counts s };
+    ghost counted = { counts };
 
     fn get(&self, key: u32) -> Row {
         self.find(key).unwrap_or(Row::null())

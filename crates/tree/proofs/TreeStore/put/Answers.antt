@@ -1,18 +1,18 @@
 use Rattle.std.proofs.Common.{rules}
-use Rattle.tree.specs.Growing.{spot, refuses, adds, adds_kept, changes, changes_kept, begins_kept}
+use Rattle.tree.proofs.Growing.{spot, refuses, adds, adds_kept, changes, changes_kept, begins_kept}
 use Rattle.tree.proofs.TreeStore.put.Goals as goal
 
-pub invariant-of-self : goal.invariant-of-self
-invariant-of-self c =
+pub invariant_of-self : goal.invariant_of-self
+invariant_of-self c =
     let after = begins_kept c.args.self.now.nodes c.args.key c.args.row c.leaf.result (search rules) c.leaf.ensures in
-    (after.0, (after.1, (search rules, tt)))
+    record { reached = after.0; linked = after.1; bound = search rules }
 
-pub invariant-of-self-then-self-p : goal.invariant-of-self-then-self-p
-invariant-of-self-then-self-p c =
+pub invariant_of-self-then-self-p : goal.invariant_of-self-then-self-p
+invariant_of-self-then-self-p c =
     let s = c.args.self.now in
     let w = spot s c.args.key c.place-p.result (search rules) c.place-p.ensures in
     let after = changes_kept w s.capacity c.args.row c.if-self-p.true c.change.ensures in
-    (after.0, (after.1, (s.bound, tt)))
+    record { reached = after.0; linked = after.1; bound = s.bound }
 
 pub returns-then-self-p : goal.returns-then-self-p
 returns-then-self-p c =
@@ -26,12 +26,12 @@ returns-then-n-self c =
     let w = spot s c.args.key c.place-p.result (search rules) c.place-p.ensures in
     refuses w s.capacity c.args.row c.if-self-p.false c.if-n-self.true
 
-pub invariant-of-self-2 : goal.invariant-of-self-2
-invariant-of-self-2 c =
+pub invariant_of-self-2 : goal.invariant_of-self-2
+invariant_of-self-2 c =
     let s = c.args.self.now in
     let w = spot s c.args.key c.place-p.result (search rules) c.place-p.ensures in
     let after = adds_kept w s.capacity c.args.row c.if-self-p.false c.if-n-self.false s.bound.2 c.grow.ensures in
-    (after.0, (after.1, (search rules, tt)))
+    record { reached = after.0; linked = after.1; bound = search rules }
 
 pub returns : goal.returns
 returns c =

@@ -1,5 +1,5 @@
 use Rattle.std.proofs.Common.{◌∙◌, rules}
-use Rattle.tree.specs.Growing.{spot, found}
+use Rattle.tree.proofs.Growing.{spot, found}
 use Rattle.tree.proofs.arena.Tree.find.Goals as goal
 
 pub returns : goal.returns

@@ -1,6 +1,6 @@
 use Rattle.std.proofs.Common.{sym, ◌∙◌}
 use Rattle.tree.specs.Nodes.{here}
-use Rattle.tree.specs.Descents.{after, link}
+use Rattle.tree.proofs.Descents.{after, link}
 use Rattle.tree.proofs.arena.Tree.place.Goals as goal
 
 pub loop-c-init : goal.loop-c-init

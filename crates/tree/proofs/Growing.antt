@@ -1,16 +1,16 @@
 -- What a descent finds, and what a put does to the tree.
-use Rattle.std.specs.Prelude.{◌≡◌, ℕ, zero, suc, ◌+◌, ◌<◌, ◌≤◌, Bool, true, false, cond, ◌&&◌, ◌≢◌, ◌⊎◌, List, [], ◌∷◌, length, set, is_some, Some, None, Ok, Err, Option, ◌==◌, nat_eq, nat_lt, slice_set, refl}
-use Rattle.std.proofs.Common.{sym, ap, ◌∙◌, subst, inl, inr, add-one, arith}
+use Rattle.std.proofs.Common.{◌≡◌, ℕ, zero, suc, ◌+◌, ◌<◌, ◌≤◌, Bool, true, false, cond, ◌&&◌, eqb, ltb, ◌≢◌, ◌⊎◌, List, [], ◌∷◌, length, set, is_some, Some, None, Ok, Err, Option, refl, sym, ap, ◌∙◌, subst, inl, inr, add-one, arith}
 use Rattle.std.proofs.lemmas.List.{get_or-set_same, get_or-set_other, length-set}
 use Rattle.std.proofs.lemmas.Bool.{cases_eq, cases_Bool, eqb-true, eqb-false, eq-eqb, ne_eqb, and_parts, ltb-true, ltb-false, lt-ltb}
 use Rattle.values.specs.declared.refusal.Refusal.TheVariants.{StoreFull}
 use Rattle.store.specs.declared.Row.{Row}
-use Rattle.store.specs.Table.{Table, Put, Counted, times, with_row, null_row}
+use Rattle.store.specs.Table.{Table, Put, with_row, null_row}
 use Rattle.store.proofs.Puts.{put_again, put_new, put_full}
 use Rattle.tree.specs.declared.arena.Tree.{Tree}
 use Rattle.tree.specs.declared.node.Node.{Node}
 use Rattle.tree.specs.Nodes.{at, next_of, row_at, linked_to, leaf_of, rowed, changed, grown, find, onward, Leads, here, Descent, Reached, Linked}
-use Rattle.tree.specs.Descents.{some_none, next_lower, next_higher, next_own, after, link, descent, own_end, own_way, one_node, Still, still_leads}
+use Rattle.tree.specs.Counts.{some_none, next_lower, next_higher}
+use Rattle.tree.proofs.Descents.{after, link, descent, own_end, own_way, Still, still_leads}
 
 everywhere : (P : ℕ → Type 0) (p : ℕ) → P p → ((i : ℕ) → i ≢ p → P i) → (i : ℕ) → P i
 everywhere P p at_p rest i = go (cases_eq i p)
@@ -23,7 +23,7 @@ everywhere P p at_p rest i = go (cases_eq i p)
 find_none : (xs : List Node) (n q : ℕ) → ((i : ℕ) → i < n → (at xs i).key ≢ q) → find xs n q ≡ None
 find_none xs zero q h = refl
 find_none xs (suc n) q h =
-    let e : nat_eq q (at xs n).key ≡ false = ne_eqb q (at xs n).key (λ e. h n (omega arith) (sym e)) in
+    let e : eqb q (at xs n).key ≡ false = ne_eqb q (at xs n).key (λ e. h n (omega arith) (sym e)) in
     rw e (find_none xs n q (λ i l. h i (omega arith)))
 
 pub find_some : (xs : List Node) (n p q : ℕ) → p < n → (at xs p).key ≡ q → ((i : ℕ) → i < n → (at xs i).key ≡ q → i ≡ p) → find xs n q ≡ Some (at xs p).row
@@ -32,19 +32,19 @@ find_some xs (suc n) p q l e h = go (λ m. find_some xs n p q m e (λ i b. h i (
   where
     go : (p < n → find xs n q ≡ Some (at xs p).row) → (p ≡ n) ⊎ (p ≢ n) → find xs (suc n) q ≡ Some (at xs p).row
     go more (inl s) =
-        let t : nat_eq q (at xs n).key ≡ true = eq-eqb q (at xs n).key (sym e ∙ ap (λ i. (at xs i).key) s) in
+        let t : eqb q (at xs n).key ≡ true = eq-eqb q (at xs n).key (sym e ∙ ap (λ i. (at xs i).key) s) in
         rw t (ap (λ i. Some (at xs i).row) (sym s))
     go more (inr d) =
-        let f : nat_eq q (at xs n).key ≡ false = ne_eqb q (at xs n).key (λ x. d (sym (h n (omega arith) (sym x)))) in
+        let f : eqb q (at xs n).key ≡ false = ne_eqb q (at xs n).key (λ x. d (sym (h n (omega arith) (sym x)))) in
         rw f (more (omega arith))
 
 find_same : (xs xs' : List Node) (n q : ℕ) → ((i : ℕ) → i < n → (at xs' i).key ≡ (at xs i).key) → ((i : ℕ) → i < n → (at xs i).key ≡ q → (at xs' i).row ≡ (at xs i).row)
     → find xs' n q ≡ find xs n q
 find_same xs xs' zero q k r = refl
 find_same xs xs' (suc n) q k r =
-    go (cases_Bool (q == (at xs n).key)) (find_same xs xs' n q (λ i l. k i (omega arith)) (λ i l. r i (omega arith)))
+    go (cases_Bool (eqb q (at xs n).key)) (find_same xs xs' n q (λ i l. k i (omega arith)) (λ i l. r i (omega arith)))
   where
-    go : ((q == (at xs n).key) ≡ true) ⊎ ((q == (at xs n).key) ≡ false) → find xs' n q ≡ find xs n q → find xs' (suc n) q ≡ find xs (suc n) q
+    go : (eqb q (at xs n).key ≡ true) ⊎ (eqb q (at xs n).key ≡ false) → find xs' n q ≡ find xs n q → find xs' (suc n) q ≡ find xs (suc n) q
     go (inl t) e = rw (k n (omega arith), t) (ap Some (r n (omega arith) (sym (eqb-true q (at xs n).key t))))
     go (inr f) e = rw (k n (omega arith), f) e
 
@@ -71,23 +71,23 @@ still_reached xs xs' n l r keys still i a =
 
 -- a link set on the side of k, where there was none
 linked_key : (x : Node) (k c : ℕ) → (linked_to x k c).key ≡ x.key
-linked_key x k c = go (cases_Bool (nat_lt k x.key))
+linked_key x k c = go (cases_Bool (ltb k x.key))
   where
-    go : (nat_lt k x.key ≡ true) ⊎ (nat_lt k x.key ≡ false) → (linked_to x k c).key ≡ x.key
+    go : (ltb k x.key ≡ true) ⊎ (ltb k x.key ≡ false) → (linked_to x k c).key ≡ x.key
     go (inl t) = rw t refl
     go (inr f) = rw f refl
 
 linked_row : (x : Node) (k c : ℕ) → (linked_to x k c).row ≡ x.row
-linked_row x k c = go (cases_Bool (nat_lt k x.key))
+linked_row x k c = go (cases_Bool (ltb k x.key))
   where
-    go : (nat_lt k x.key ≡ true) ⊎ (nat_lt k x.key ≡ false) → (linked_to x k c).row ≡ x.row
+    go : (ltb k x.key ≡ true) ⊎ (ltb k x.key ≡ false) → (linked_to x k c).row ≡ x.row
     go (inl t) = rw t refl
     go (inr f) = rw f refl
 
 linked_own : (x : Node) (k c : ℕ) → x.key ≢ k → next_of (linked_to x k c) k ≡ Some c
-linked_own x k c d = go (cases_Bool (nat_lt k x.key))
+linked_own x k c d = go (cases_Bool (ltb k x.key))
   where
-    go : (nat_lt k x.key ≡ true) ⊎ (nat_lt k x.key ≡ false) → next_of (linked_to x k c) k ≡ Some c
+    go : (ltb k x.key ≡ true) ⊎ (ltb k x.key ≡ false) → next_of (linked_to x k c) k ≡ Some c
     go (inl t) = rw t (rw t refl)
     go (inr f) =
         let h : x.key < k = omega (arith, ltb-false k x.key f) in
@@ -95,9 +95,9 @@ linked_own x k c d = go (cases_Bool (nat_lt k x.key))
 
 linked_next : (x : Node) (k c j : ℕ) → x.key ≢ k → next_of x k ≡ None
     → (next_of (linked_to x k c) j ≡ next_of x j) ⊎ ((next_of (linked_to x k c) j ≡ Some c) × (next_of x j ≡ None))
-linked_next x k c j d e = go (cases_Bool (nat_lt k x.key)) (cases_Bool (nat_lt j x.key)) (cases_Bool (nat_lt x.key j))
+linked_next x k c j d e = go (cases_Bool (ltb k x.key)) (cases_Bool (ltb j x.key)) (cases_Bool (ltb x.key j))
   where
-    go : (nat_lt k x.key ≡ true) ⊎ (nat_lt k x.key ≡ false) → (nat_lt j x.key ≡ true) ⊎ (nat_lt j x.key ≡ false) → (nat_lt x.key j ≡ true) ⊎ (nat_lt x.key j ≡ false)
+    go : (ltb k x.key ≡ true) ⊎ (ltb k x.key ≡ false) → (ltb j x.key ≡ true) ⊎ (ltb j x.key ≡ false) → (ltb x.key j ≡ true) ⊎ (ltb x.key j ≡ false)
         → (next_of (linked_to x k c) j ≡ next_of x j) ⊎ ((next_of (linked_to x k c) j ≡ Some c) × (next_of x j ≡ None))
     go (inl a) (inl b) g = inr (rw (a, b) refl, rw b (sym (next_lower x k (ltb-true k x.key a)) ∙ e))
     go (inl a) (inr b) g = inl (rw (a, b) refl)
@@ -106,9 +106,9 @@ linked_next x k c j d e = go (cases_Bool (nat_lt k x.key)) (cases_Bool (nat_lt j
     go (inr a) (inr b) (inr g) = inl (rw (a, b, g) refl)
 
 next_leaf : (k j : ℕ) (v : Row) → next_of (leaf_of k v) j ≡ None
-next_leaf k j v = go (cases_Bool (nat_lt j k)) (cases_Bool (nat_lt k j))
+next_leaf k j v = go (cases_Bool (ltb j k)) (cases_Bool (ltb k j))
   where
-    go : (nat_lt j k ≡ true) ⊎ (nat_lt j k ≡ false) → (nat_lt k j ≡ true) ⊎ (nat_lt k j ≡ false) → next_of (leaf_of k v) j ≡ None
+    go : (ltb j k ≡ true) ⊎ (ltb j k ≡ false) → (ltb k j ≡ true) ⊎ (ltb k j ≡ false) → next_of (leaf_of k v) j ≡ None
     go (inl a) b = rw a refl
     go (inr a) (inl b) = rw (a, b) refl
     go (inr a) (inr b) = rw (a, b) refl
@@ -119,7 +119,7 @@ onward_some i n c a b = rw (lt-ltb i c a, lt-ltb c n b) refl
 onward_more : (i n : ℕ) (o : Option ℕ) → onward i n o ≡ true → onward i (n + 1) o ≡ true
 onward_more i n None h = refl
 onward_more i n (Some c) h =
-    let d = and_parts (nat_lt i c) (nat_lt c n) h in
+    let d = and_parts (ltb i c) (ltb c n) h in
     let b = ltb-true c n d.1 in
     onward_some i (n + 1) c (ltb-true i c d.0) (omega arith)
 
@@ -136,9 +136,9 @@ module _ {xs : List Node} {n k p : ℕ} (w : Spot xs n k p) where
 
   -- the descent finds what a look at each node finds
   pub found : row_at (at xs p) k ≡ find xs n k
-  found = go (cases_Bool ((at xs p).key == k))
+  found = go (cases_Bool (eqb (at xs p).key k))
     where
-      go : (((at xs p).key == k) ≡ true) ⊎ (((at xs p).key == k) ≡ false) → row_at (at xs p) k ≡ find xs n k
+      go : (eqb (at xs p).key k ≡ true) ⊎ (eqb (at xs p).key k ≡ false) → row_at (at xs p) k ≡ find xs n k
       go (inl t) = rw t (sym (find_some xs n p k p_in (eqb-true (at xs p).key k t) only))
       go (inr f) = rw f (sym (find_none xs n k (λ i a e. eqb-false (at xs p).key k f (subst (λ (j : ℕ). (at xs j).key ≡ k) (only i a e) e))))
 
@@ -170,9 +170,9 @@ module _ {xs : List Node} {n k p : ℕ} (w : Spot xs n k p) where
       same_next j = everywhere (λ i. next_of (at rows i) j ≡ next_of (at xs i) j) p (ap (λ x. next_of x j) at_own) (λ i d. ap (λ x. next_of x j) (at_others i d))
 
       rows_look : (q : ℕ) → find rows n q ≡ with_row (find xs n) k v q
-      rows_look q = go (cases_Bool (q == k))
+      rows_look q = go (cases_Bool (eqb q k))
         where
-          go : ((q == k) ≡ true) ⊎ ((q == k) ≡ false) → find rows n q ≡ with_row (find xs n) k v q
+          go : (eqb q k ≡ true) ⊎ (eqb q k ≡ false) → find rows n q ≡ with_row (find xs n) k v q
           go (inl t) =
               let same : q ≡ k = eqb-true q k t in
               rw (t, same) (find_some rows n p k p_in (same_key p ∙ own) (λ i a e. only i a (sym (same_key i) ∙ e)) ∙ ap (λ x. Some x.row) at_own)
@@ -199,10 +199,10 @@ module _ {xs : List Node} {n k p : ℕ} (w : Spot xs n k p) where
       parent = linked_to (at xs p) k n
 
       at_new : at more n ≡ leaf_of k v
-      at_new = get_or-set_same (slice_set xs p parent) n (leaf_of k v) (leaf_of 0 null_row) (omega (arith, length-set xs p parent, w.size))
+      at_new = get_or-set_same (set xs p parent) n (leaf_of k v) (leaf_of 0 null_row) (omega (arith, length-set xs p parent, w.size))
 
-      at_old : (i : ℕ) → i < n → at more i ≡ at (slice_set xs p parent) i
-      at_old i a = get_or-set_other (slice_set xs p parent) n i (leaf_of k v) (leaf_of 0 null_row) (λ e. absurd (omega arith))
+      at_old : (i : ℕ) → i < n → at more i ≡ at (set xs p parent) i
+      at_old i a = get_or-set_other (set xs p parent) n i (leaf_of k v) (leaf_of 0 null_row) (λ e. absurd (omega arith))
 
       at_parent : at more p ≡ parent
       at_parent = at_old p p_in ∙ get_or-set_same xs p parent (leaf_of 0 null_row) (omega (arith, p_in, w.size))
@@ -252,7 +252,7 @@ module _ {xs : List Node} {n k p : ℕ} (w : Spot xs n k p) where
       more_look : (q : ℕ) → find more (n + 1) q ≡ with_row (find xs n) k v q
       more_look q =
           let e : find more n q ≡ find xs n q = find_same xs more n q old_key (λ i a h. old_row i a) in
-          rw (add-one, at_new) (ap (λ x. cond (q == k) (Some v) x) e)
+          rw (add-one, at_new) (ap (λ x. cond (eqb q k) (Some v) x) e)
 
       pub adds_kept : {ys : List Node} → ys ≡ more → Kept ys (n + 1)
       adds_kept e = subst (λ (ys : List Node). Kept ys (n + 1)) (sym e) (λ i a. ∣ more_reached i a ∣₁, λ i j a. more_linked j i a)
@@ -263,48 +263,11 @@ module _ {xs : List Node} {n k p : ℕ} (w : Spot xs n k p) where
 
 -- the first put
 module _ (xs : List Node) (k : ℕ) (v : Row) (z : Node) (size : length xs ≡ 64) (ez : z ≡ leaf_of k v) where
-  at_root : at (slice_set xs 0 z) 0 ≡ leaf_of k v
+  at_root : at (set xs 0 z) 0 ≡ leaf_of k v
   at_root = get_or-set_same xs 0 z (leaf_of 0 null_row) (omega arith) ∙ ez
 
-  pub begins_kept : Kept (slice_set xs 0 z) 1
+  pub begins_kept : Kept (set xs 0 z) 1
   begins_kept = (
-    λ i a. let e : 0 ≡ i = omega arith in ∣ subst (λ (j : ℕ). Leads (slice_set xs 0 z) (at (slice_set xs 0 z) i).key 0 j) e here ∣₁,
-    λ i j a. let e : i ≡ 0 = omega arith in ap (onward i 1) (ap (λ m. next_of (at (slice_set xs 0 z) m) j) e ∙ ap (λ x. next_of x j) at_root ∙ next_leaf k j v),
+    λ i a. let e : 0 ≡ i = omega arith in ∣ subst (λ (j : ℕ). Leads (set xs 0 z) (at (set xs 0 z) i).key 0 j) e here ∣₁,
+    λ i j a. let e : i ≡ 0 = omega arith in ap (onward i 1) (ap (λ m. next_of (at (set xs 0 z) m) j) e ∙ ap (λ x. next_of x j) at_root ∙ next_leaf k j v),
   )
-
--- the keys of the first n nodes
-abbrev keys : List Node → ℕ → List ℕ
-keys xs zero = []
-keys xs (suc n) = (at xs n).key ∷ keys xs n
-
-length_keys : (xs : List Node) (n : ℕ) → n ≡ length (keys xs n)
-length_keys xs zero = refl
-length_keys xs (suc n) = ap suc (length_keys xs n)
-
-no_times : (xs : List Node) (n q : ℕ) → ((i : ℕ) → i < n → (at xs i).key ≢ q) → times q (keys xs n) ≡ 0
-no_times xs zero q h = refl
-no_times xs (suc n) q h =
-    let e : nat_eq q (at xs n).key ≡ false = ne_eqb q (at xs n).key (λ e. h n (omega arith) (sym e)) in
-    let t = no_times xs n q (λ i l. h i (omega arith)) in
-    rw e (omega arith)
-
--- a key that one node at most has is counted once or not at all
-once : (xs : List Node) (n q : ℕ) → ((i j : ℕ) → i < n → j < n → (at xs i).key ≡ q → (at xs j).key ≡ q → i ≡ j) → times q (keys xs n) ≡ cond (is_some (find xs n q)) 1 0
-once xs zero q h = refl
-once xs (suc n) q h = go (cases_Bool (q == (at xs n).key)) (once xs n q (λ i j a b. h i j (omega arith) (omega arith)))
-  where
-    go : ((q == (at xs n).key) ≡ true) ⊎ ((q == (at xs n).key) ≡ false) → times q (keys xs n) ≡ cond (is_some (find xs n q)) 1 0
-        → times q (keys xs (suc n)) ≡ cond (is_some (find xs (suc n) q)) 1 0
-    go (inl t) e =
-        let z = no_times xs n q (λ i a x. let w : i ≡ n = h i n (omega arith) (omega arith) x (sym (eqb-true q (at xs n).key t)) in absurd (omega arith)) in
-        rw t (omega arith)
-    go (inr f) e = rw f (omega arith)
-
-pub counts : (s : Tree) → Counted (table s.nodes s.held s.capacity)
-counts s = record {
-  keys = keys s.nodes s.held;
-  held = length_keys s.nodes s.held;
-  once = λ q. once s.nodes s.held q (λ i j a b e f. one_node s.nodes s.held s.linked s.reached i j a b (e ∙ sym f));
-  bound = s.bound.0;
-  small = (s.bound.1, s.bound.2);
-}

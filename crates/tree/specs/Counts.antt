@@ -1,0 +1,106 @@
+-- That a search tree counts the keys that it holds: the descent for a key has one end, so no two nodes have one key.
+-- Only the impl of Store cites this; there is nothing in it that a reader has to believe.
+use Rattle.std.specs.Prelude.{◌≡◌, ℕ, zero, suc, ◌+◌, ◌<◌, true, false, cond, eqb, ltb, ◌≢◌, ◌⊎◌, List, [], ◌∷◌, length, is_some, Some, None, Option, refl}
+use Rattle.std.proofs.Common.{sym, ap, ◌∙◌, subst, inl, inr, arith}
+use Rattle.std.proofs.Math.Logic.{∥∥₁_elim}
+use Rattle.std.proofs.Math.Nat.{ℕ_set}
+use Rattle.std.proofs.lemmas.Bool.{cases_Bool, eqb-true, ne_eqb, lt-ltb, le-ltb}
+use Rattle.store.specs.Table.{Counted, times}
+use Rattle.tree.specs.declared.arena.Tree.{Tree}
+use Rattle.tree.specs.declared.node.Node.{Node}
+use Rattle.tree.specs.Nodes.{at, next_of, find, Leads, here, lower, higher, Reached}
+use Rattle.tree.specs.Means.{tree_table}
+
+pub some_none : {A : Type 0} {c : ℕ} (o : Option ℕ) → o ≡ Some c → o ≡ None → A
+some_none o e f = let z : ◌≡◌ {A = ℕ} 0 1 = cc in absurd (omega arith)
+
+-- the three ways on from a node
+pub next_lower : (x : Node) (k : ℕ) → k < x.key → next_of x k ≡ x.lower
+next_lower x k h = rw (lt-ltb k x.key h) refl
+
+pub next_higher : (x : Node) (k : ℕ) → x.key < k → next_of x k ≡ x.higher
+next_higher x k h =
+    let a : ltb k x.key ≡ false = le-ltb k x.key (omega arith) in
+    let b : ltb x.key k ≡ true = lt-ltb x.key k h in
+    rw (a, b) refl
+
+pub next_own : (x : Node) (k : ℕ) → x.key ≡ k → next_of x k ≡ None
+next_own x k e =
+    let a : ltb k x.key ≡ false = le-ltb k x.key (omega arith) in
+    let b : ltb x.key k ≡ false = le-ltb x.key k (omega arith) in
+    rw (a, b) refl
+
+module _ (xs : List Node) (k : ℕ) where
+  -- the first step of a way, if it has one
+  abbrev First : ℕ → ℕ → Type 0
+  First i j = (i ≡ j) ⊎ ((c : ℕ) × (next_of (at xs i) k ≡ Some c) × Leads xs k c j)
+
+  first : (i j : ℕ) → Leads xs k i j → First i j
+  first i j here = inl refl
+  first i j (lower {c = c} h l w) = inr (c, next_lower (at xs i) k h ∙ l, w)
+  first i j (higher {c = c} h l w) = inr (c, next_higher (at xs i) k h ∙ l, w)
+
+  -- a way from where the descent ends has no step
+  stays : (i j : ℕ) → next_of (at xs i) k ≡ None → Leads xs k i j → i ≡ j
+  stays i j e w = go (first i j w)
+    where
+      go : First i j → i ≡ j
+      go (inl s) = s
+      go (inr (c, n, v)) = some_none (next_of (at xs i) k) n e
+
+  -- a way to where the descent ends takes the step that there is
+  steps : (i c q : ℕ) → next_of (at xs i) k ≡ Some c → next_of (at xs q) k ≡ None → Leads xs k i q → Leads xs k c q
+  steps i c q n f v = go (first i q v)
+    where
+      go : First i q → Leads xs k c q
+      go (inl s) = some_none (next_of (at xs i) k) n (rw s f)
+      go (inr (b, m, u)) = let s : b ≡ c = cc in subst (λ (d : ℕ). Leads xs k d q) s u
+
+  -- the descent for a key has one end
+  pub one_end : (i p q : ℕ) → Leads xs k i p → next_of (at xs p) k ≡ None → Leads xs k i q → next_of (at xs q) k ≡ None → p ≡ q
+  one_end i p q here e v f = stays i q e v
+  one_end i p q (lower {c = c} h l w) e v f = one_end c p q w e (steps i c q (next_lower (at xs i) k h ∙ l) f v) f
+  one_end i p q (higher {c = c} h l w) e v f = one_end c p q w e (steps i c q (next_higher (at xs i) k h ∙ l) f v) f
+
+-- no two nodes have one key
+pub one_node : (xs : List Node) (n : ℕ) → Reached xs n → (i j : ℕ) → i < n → j < n → (at xs i).key ≡ (at xs j).key → i ≡ j
+one_node xs n r i j a b e =
+    ∥∥₁_elim (r i a) (ℕ_set i j) (λ v. ∥∥₁_elim (r j b) (ℕ_set i j) (λ w.
+    one_end xs (at xs j).key 0 i j (subst (λ (k : ℕ). Leads xs k 0 i) e v) (next_own (at xs i) (at xs j).key e) w (next_own (at xs j) (at xs j).key refl)))
+
+-- the keys of the first n nodes
+abbrev keys : List Node → ℕ → List ℕ
+keys xs zero = []
+keys xs (suc n) = (at xs n).key ∷ keys xs n
+
+length_keys : (xs : List Node) (n : ℕ) → n ≡ length (keys xs n)
+length_keys xs zero = refl
+length_keys xs (suc n) = ap suc (length_keys xs n)
+
+no_times : (xs : List Node) (n q : ℕ) → ((i : ℕ) → i < n → (at xs i).key ≢ q) → times q (keys xs n) ≡ 0
+no_times xs zero q h = refl
+no_times xs (suc n) q h =
+    let e : eqb q (at xs n).key ≡ false = ne_eqb q (at xs n).key (λ e. h n (omega arith) (sym e)) in
+    let t = no_times xs n q (λ i l. h i (omega arith)) in
+    rw e (omega arith)
+
+-- a key that one node at most has is counted once or not at all
+once : (xs : List Node) (n q : ℕ) → ((i j : ℕ) → i < n → j < n → (at xs i).key ≡ q → (at xs j).key ≡ q → i ≡ j) → times q (keys xs n) ≡ cond (is_some (find xs n q)) 1 0
+once xs zero q h = refl
+once xs (suc n) q h = go (cases_Bool (eqb q (at xs n).key)) (once xs n q (λ i j a b. h i j (omega arith) (omega arith)))
+  where
+    go : (eqb q (at xs n).key ≡ true) ⊎ (eqb q (at xs n).key ≡ false) → times q (keys xs n) ≡ cond (is_some (find xs n q)) 1 0
+        → times q (keys xs (suc n)) ≡ cond (is_some (find xs (suc n) q)) 1 0
+    go (inl t) e =
+        let z = no_times xs n q (λ i a x. let w : i ≡ n = h i n (omega arith) (omega arith) x (sym (eqb-true q (at xs n).key t)) in absurd (omega arith)) in
+        rw t (omega arith)
+    go (inr f) e = rw f (omega arith)
+
+pub counts : (t : Tree) → Counted (tree_table t)
+counts t = record {
+  keys = keys t.nodes t.held;
+  held = length_keys t.nodes t.held;
+  once = λ q. once t.nodes t.held q (λ i j a b e f. one_node t.nodes t.held t.reached i j a b (e ∙ sym f));
+  bound = t.bound.0;
+  small = (t.bound.1, t.bound.2);
+}
