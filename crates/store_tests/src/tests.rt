@@ -2,6 +2,7 @@ use crate::list::List;
 use crate::runs::*;
 use hashed::table::Hashed;
 use std::process::Abort;
+use std::test::Fail;
 use store::{Either, Row, Store};
 use tree::arena::Tree;
 use values::refusal::Refusal;
