@@ -1,10 +1,10 @@
 -- What a put does to a table: how a store shows it, and what follows from it.
-use Rattle.std.proofs.Common.{◌≡◌, ℕ, ◌+◌, ◌<◌, ◌≤◌, Bool, true, false, cond, not, ◌&&◌, eqb, leb, ◌⊎◌, List, [], ◌∷◌, length, is_some, Some, None, Ok, Err, Option, Result, sym, refl, ap, ◌∙◌, subst, inl, inr, arith}
+use Rattle.std.proofs.Common.{◌≡◌, ℕ, ◌+◌, ◌<◌, ◌≤◌, Bool, true, false, cond, not, eqb, leb, ◌⊎◌, ◌∷◌, is_some, Some, None, Ok, Err, Option, Result, sym, refl, ◌∙◌, subst, inl, inr, arith}
 use Rattle.std.proofs.lemmas.Bool.{both_ways, cases_Bool, and_parts, not-true, eqb-true, eq-eqb, ne_eqb, le-leb, lt-leb, cond-false, leb-true, leb-false}
 use Rattle.values.specs.declared.refusal.Refusal.{Refusal}
 use Rattle.values.specs.declared.refusal.Refusal.TheVariants.{StoreFull}
 use Rattle.store.specs.declared.Row.{Row}
-use Rattle.store.specs.Table.{Table, Put, Counted, times, empty, has, row_of, row_or_null, null_row, with_row, full_for, stored}
+use Rattle.store.specs.Table.{Table, Put, Counted, times, has, row_or_null, null_row, with_row, full_for, stored}
 use Rattle.store.specs.Laws.{PutDone, PutRefused, StoreLaws}
 
 pub same_table : (t u : Table) → ((q : ℕ) → t.look q ≡ u.look q) → t.held ≡ u.held → t.most ≡ u.most → t ≡ u

@@ -1,9 +1,9 @@
 -- What layers above may know of a store, whatever it is made of.
-use Rattle.std.specs.Prelude.{◌≡◌, ℕ, ◌+◌, ◌<◌, ◌≤◌, true, false, Some, None, Ok, Err, Result, ◌≢◌}
+use Rattle.std.specs.Prelude.{◌≡◌, ℕ, ◌+◌, ◌<◌, ◌≤◌, true, false, Some, Ok, Err, Result, ◌≢◌}
 use Rattle.values.specs.declared.refusal.Refusal.{Refusal}
 use Rattle.values.specs.declared.refusal.Refusal.TheVariants.{StoreFull}
 use Rattle.store.specs.declared.Row.{Row}
-use Rattle.store.specs.Table.{Table, Put, Counted, empty, has, row_of, null_row, stored}
+use Rattle.store.specs.Table.{Table, Put, Counted, empty, has, row_of, null_row}
 
 -- What holds after a put that is not refused.
 pub record PutDone (t : Table) (k : ℕ) (v : Row) (t' : Table) : Type 0 where
