@@ -1,11 +1,11 @@
 -- The laws of a hashed table.
-use Rattle.std.proofs.Common.{◌≡◌, ℕ, ◌<◌, true, false, cond, eqb, ◌⊎◌, Some, None, sym, refl, ◌∙◌, inl, inr, arith}
+use Rattle.std.proofs.Common.{◌≡◌, ℕ, true, false, eqb, ◌⊎◌, Some, None, sym, refl, ◌∙◌, inl, inr, arith}
 use Rattle.std.proofs.lemmas.Bool.{cases_Bool, eqb-true, eq-eqb}
 use Rattle.store.specs.declared.Row.{Row}
 use Rattle.hashed.specs.declared.slot.Slot.{Slot}
 use Rattle.hashed.specs.declared.slot.Slot.TheVariants.{Empty, Holds}
 use Rattle.hashed.specs.declared.table.Hashed.{Hashed}
-use Rattle.hashed.specs.Places.{at, keyed, row_at, find, place_of}
+use Rattle.hashed.specs.Places.{at, row_at, find, place_of}
 use Rattle.hashed.specs.Laws.{HashedLaws}
 use Rattle.hashed.proofs.Firsts.{all_bits}
 use Rattle.hashed.proofs.Probing.{searched}

@@ -1,5 +1,5 @@
 -- What a search finds, and what a put does to the table.
-use Rattle.std.proofs.Common.{◌≡◌, ℕ, zero, suc, ◌+◌, ◌-◌, ◌<◌, ◌≤◌, true, false, cond, eqb, ◌≢◌, ◌⊎◌, List, [], ◌∷◌, length, set, replicate, is_some, Some, None, Ok, Err, Option, refl, sym, ap, subst, ◌∙◌, inl, inr, arith}
+use Rattle.std.proofs.Common.{◌≡◌, ℕ, zero, suc, ◌+◌, ◌<◌, ◌≤◌, true, false, eqb, ◌≢◌, ◌⊎◌, List, length, set, replicate, is_some, None, Ok, Err, refl, sym, ap, subst, ◌∙◌, inl, inr, arith}
 use Rattle.std.proofs.lemmas.Bool.{both_ways, cases_eq, cases_Bool, eqb-true, eq-eqb, ne_eqb}
 use Rattle.store.specs.declared.Row.{Row}
 use Rattle.store.specs.Table.{Table, Put, with_row}
@@ -8,8 +8,8 @@ use Rattle.values.specs.declared.refusal.Refusal.TheVariants.{StoreFull}
 use Rattle.hashed.specs.declared.slot.Slot.{Slot}
 use Rattle.hashed.specs.declared.table.Hashed.{Hashed}
 use Rattle.hashed.specs.declared.slot.Slot.TheVariants.{Empty, Holds}
-use Rattle.hashed.specs.Places.{row_at, vacant, at, keyed, stops, seek, find, taken, Reached, place_of, home_of}
-use Rattle.hashed.proofs.Probing.{set_here, set_there, set_reached, find_none, find_some, find_other, searched, place_stops, taken_again, taken_new}
+use Rattle.hashed.specs.Places.{row_at, vacant, at, keyed, stops, find, taken, Reached, place_of}
+use Rattle.hashed.proofs.Probing.{set_here, set_reached, find_none, find_some, find_other, searched, place_stops, taken_again, taken_new}
 
 -- no place but that where the search ends has the key
 elsewhere : (xs : List Slot) (k i : ℕ) → Reached xs → i ≢ place_of xs k → keyed (at xs i) k ≡ false
