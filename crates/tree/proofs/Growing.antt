@@ -1,5 +1,5 @@
 -- What a descent finds, and what a put does to the tree.
-use Rattle.std.proofs.Common.{◌≡◌, ℕ, zero, suc, ◌+◌, ◌<◌, ◌≤◌, Bool, true, false, cond, ◌&&◌, eqb, ltb, ◌≢◌, ◌⊎◌, List, [], ◌∷◌, length, set, is_some, Some, None, Ok, Err, Option, refl, sym, ap, ◌∙◌, subst, inl, inr, add-one, arith}
+use Rattle.std.proofs.Common.{◌≡◌, ℕ, zero, suc, ◌+◌, ◌<◌, ◌≤◌, true, false, cond, eqb, ltb, ◌≢◌, ◌⊎◌, List, length, set, is_some, Some, None, Ok, Err, Option, refl, sym, ap, ◌∙◌, subst, inl, inr, add-one, arith}
 use Rattle.std.proofs.lemmas.List.{get_or-set_same, get_or-set_other, length-set}
 use Rattle.std.proofs.lemmas.Bool.{cases_eq, cases_Bool, eqb-true, eqb-false, eq-eqb, ne_eqb, and_parts, ltb-true, ltb-false, lt-ltb}
 use Rattle.values.specs.declared.refusal.Refusal.TheVariants.{StoreFull}
@@ -10,7 +10,7 @@ use Rattle.tree.specs.declared.arena.Tree.{Tree}
 use Rattle.tree.specs.declared.node.Node.{Node}
 use Rattle.tree.specs.Nodes.{at, next_of, row_at, linked_to, leaf_of, rowed, changed, grown, find, onward, Leads, here, Descent, Reached, Linked}
 use Rattle.tree.specs.Counts.{some_none, next_lower, next_higher}
-use Rattle.tree.proofs.Descents.{after, link, descent, own_end, own_way, Still, still_leads}
+use Rattle.tree.proofs.Descents.{after, own_end, own_way, Still, still_leads}
 
 everywhere : (P : ℕ → Type 0) (p : ℕ) → P p → ((i : ℕ) → i ≢ p → P i) → (i : ℕ) → P i
 everywhere P p at_p rest i = go (cases_eq i p)

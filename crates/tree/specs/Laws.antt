@@ -1,5 +1,5 @@
 -- How a search tree orders its rows.
-use Rattle.std.specs.Prelude.{◌≡◌, ℕ, ◌<◌, ◌⊎◌, List, Some, None}
+use Rattle.std.specs.Prelude.{◌≡◌, ℕ, ◌<◌, Some, None}
 use Rattle.store.specs.declared.Row.{Row}
 use Rattle.tree.specs.declared.node.Node.{Node}
 use Rattle.tree.specs.declared.arena.Tree.{Tree}

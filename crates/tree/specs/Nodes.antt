@@ -1,5 +1,5 @@
 -- The nodes of a search tree, and the descent for a key among them.
-use Rattle.std.specs.Prelude.{◌≡◌, ℕ, zero, suc, ◌<◌, Bool, true, cond, ◌&&◌, List, set, Some, None, Option, ◌==◌, nat_lt, slice_index_or, slice_set}
+use Rattle.std.specs.Prelude.{◌≡◌, ℕ, zero, suc, ◌<◌, Bool, true, cond, ◌&&◌, List, Some, None, Option, ◌==◌, nat_lt, slice_index_or, slice_set}
 use Rattle.store.specs.declared.Row.{Row}
 use Rattle.store.specs.Table.{null_row}
 use Rattle.tree.specs.declared.node.Node.{Node}
