@@ -30,7 +30,8 @@ no_times (Holds j v ∷ xs) q h =
     rw e (omega arith)
 
 -- a key that is at one place at most is counted once or not at all
-once : (xs : List Slot) (q : ℕ) → ((i j : ℕ) → keyed (at xs i) q ≡ true → keyed (at xs j) q ≡ true → i ≡ j) → times q (keys xs) ≡ cond (is_some (find xs q)) 1 0
+once : (xs : List Slot) (q : ℕ) → ((i j : ℕ) → keyed (at xs i) q ≡ true → keyed (at xs j) q ≡ true → i ≡ j)
+    → times q (keys xs) ≡ cond (is_some (find xs q)) 1 0
 once [] q h = refl
 once (Empty ∷ xs) q h = once xs q (λ i j a b. let e : suc i ≡ suc j = h (suc i) (suc j) a b in omega arith)
 once (Holds k v ∷ xs) q h =
@@ -43,7 +44,8 @@ once (Holds k v ∷ xs) q h =
         ways (inl a) = let e : 0 ≡ suc i = h 0 (suc i) (eq-eqb k q (sym (eqb-true q k t))) a in absurd (omega arith)
         ways (inr f) = f
 
-    go : (eqb q k ≡ true) ⊎ (eqb q k ≡ false) → times q (keys xs) ≡ cond (is_some (find xs q)) 1 0 → times q (keys (Holds k v ∷ xs)) ≡ cond (is_some (find (Holds k v ∷ xs) q)) 1 0
+    go : (eqb q k ≡ true) ⊎ (eqb q k ≡ false) → times q (keys xs) ≡ cond (is_some (find xs q)) 1 0
+        → times q (keys (Holds k v ∷ xs)) ≡ cond (is_some (find (Holds k v ∷ xs) q)) 1 0
     go (inl t) e = let z = no_times xs q (rest t) in rw t (omega arith)
     go (inr f) e = rw f (omega arith)
 

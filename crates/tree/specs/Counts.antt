@@ -63,10 +63,15 @@ module _ (xs : List Node) (k : ℕ) where
   one_end i p q (higher {c = c} h l w) e v f = one_end c p q w e (steps i c q (next_higher (at xs i) k h ∙ l) f v) f
 
 -- no two nodes have one key
-pub one_node : (xs : List Node) (n : ℕ) → Reached xs n → (i j : ℕ) → i < n → j < n → (at xs i).key ≡ (at xs j).key → i ≡ j
-one_node xs n r i j a b e =
-    ∥∥₁_elim (r i a) (ℕ_set i j) (λ v. ∥∥₁_elim (r j b) (ℕ_set i j) (λ w.
-    one_end xs (at xs j).key 0 i j (subst (λ (k : ℕ). Leads xs k 0 i) e v) (next_own (at xs i) (at xs j).key e) w (next_own (at xs j) (at xs j).key refl)))
+pub one_node : (xs : List Node) (n : ℕ) → Reached xs n
+    → (i j : ℕ) → i < n → j < n → (at xs i).key ≡ (at xs j).key → i ≡ j
+one_node xs n r i j a b e = ∥∥₁_elim (r i a) (ℕ_set i j) (λ v. ∥∥₁_elim (r j b) (ℕ_set i j) (λ w. meet v w))
+  where
+    meet : Leads xs (at xs i).key 0 i → Leads xs (at xs j).key 0 j → i ≡ j
+    meet v w =
+        let own_i = next_own (at xs i) (at xs j).key e in
+        let own_j = next_own (at xs j) (at xs j).key refl in
+        one_end xs (at xs j).key 0 i j (subst (λ (k : ℕ). Leads xs k 0 i) e v) own_i w own_j
 
 -- the keys of the first n nodes
 abbrev keys : List Node → ℕ → List ℕ
@@ -85,14 +90,16 @@ no_times xs (suc n) q h =
     rw e (omega arith)
 
 -- a key that one node at most has is counted once or not at all
-once : (xs : List Node) (n q : ℕ) → ((i j : ℕ) → i < n → j < n → (at xs i).key ≡ q → (at xs j).key ≡ q → i ≡ j) → times q (keys xs n) ≡ cond (is_some (find xs n q)) 1 0
+once : (xs : List Node) (n q : ℕ) → ((i j : ℕ) → i < n → j < n → (at xs i).key ≡ q → (at xs j).key ≡ q → i ≡ j)
+    → times q (keys xs n) ≡ cond (is_some (find xs n q)) 1 0
 once xs zero q h = refl
 once xs (suc n) q h = go (cases_Bool (eqb q (at xs n).key)) (once xs n q (λ i j a b. h i j (omega arith) (omega arith)))
   where
     go : (eqb q (at xs n).key ≡ true) ⊎ (eqb q (at xs n).key ≡ false) → times q (keys xs n) ≡ cond (is_some (find xs n q)) 1 0
         → times q (keys xs (suc n)) ≡ cond (is_some (find xs (suc n) q)) 1 0
     go (inl t) e =
-        let z = no_times xs n q (λ i a x. let w : i ≡ n = h i n (omega arith) (omega arith) x (sym (eqb-true q (at xs n).key t)) in absurd (omega arith)) in
+        let same = sym (eqb-true q (at xs n).key t) in
+        let z = no_times xs n q (λ i a x. let w : i ≡ n = h i n (omega arith) (omega arith) x same in absurd (omega arith)) in
         rw t (omega arith)
     go (inr f) e = rw f (omega arith)
 
