@@ -21,7 +21,7 @@ impl EncodedContent {
                 reads: reads.len(),
                 writes: writes.len(),
             },
-            None => unreachable(),
+            None => unreachable!(),
         }
     }
 

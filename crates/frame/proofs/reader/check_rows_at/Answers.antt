@@ -1,5 +1,5 @@
 use Rattle.std.proofs.Common.{◌≡◌, ℕ, ◌-◌, ◌*◌, ◌≤◌, min, List, length, take, drop, sym, ap, ◌∙◌, arith, rules}
-use native.Mathlib.Nat.{sub-zero}
+use Rattle.std.proofs.Math.Nat.{sub-zero}
 use Rattle.field.proofs.Faults.{same_checked}
 use Rattle.layout.specs.Numbers.{reading, writing, rows_in}
 use Rattle.layout.specs.Format.{content_fields}
@@ -15,9 +15,9 @@ returns c =
     let w = c.args.writes in
     let fr = few r c.requires.0 in
     let fw = few w c.requires.1 in
-    let rest = c.tail-at-rows.ensures in
-    let rs : take (r - 0) c.rows-in-read-rows.result ≡ rows_in reading r (drop 19 b) =
-    rw sub-zero ((λ i. take (sym fr i) c.rows-in-read-rows.result) ∙ c.rows-in-read-rows.ensures ∙ (λ i. rows_in reading (fr i) (rest i))) in
-    let ws : take (w - 0) c.rows-in-write-rows.result ≡ rows_in writing w (drop (9 * r) (drop 19 b)) =
-    rw sub-zero ((λ i. take (sym fw i) c.rows-in-write-rows.result) ∙ c.rows-in-write-rows.ensures ∙ (λ i. rows_in writing (fw i) ((c.tail-at.ensures ∙ ap (λ (t : List ℕ). drop (9 * r) t) rest) i))) in
-    same_checked (length b) c.check-content.result (λ i. content_fields c.args.timestamp (rs i) (ws i)) c.check-content.ensures
+    let rest = c.tail_at-rows.ensures in
+    let rs : take (r - 0) c.rows_in-read_rows.result ≡ rows_in reading r (drop 19 b) =
+    rw sub-zero ((λ i. take (sym fr i) c.rows_in-read_rows.result) ∙ c.rows_in-read_rows.ensures ∙ (λ i. rows_in reading (fr i) (rest i))) in
+    let ws : take (w - 0) c.rows_in-write_rows.result ≡ rows_in writing w (drop (9 * r) (drop 19 b)) =
+    rw sub-zero ((λ i. take (sym fw i) c.rows_in-write_rows.result) ∙ c.rows_in-write_rows.ensures ∙ (λ i. rows_in writing (fw i) ((c.tail_at.ensures ∙ ap (λ (t : List ℕ). drop (9 * r) t) rest) i))) in
+    same_checked (length b) c.check_content.result (λ i. content_fields c.args.timestamp (rs i) (ws i)) c.check_content.ensures

@@ -11,4 +11,4 @@ returns c =
     let rs : 19 + 9 * r - 19 ≡ 9 * get_or b 17 0 = omega arith in
     let ws : 19 + 9 * r + 8 * w - (19 + 9 * r) ≡ 8 * get_or b 18 0 = omega arith in
     let at : 19 + 9 * r ≡ 19 + 9 * get_or b 17 0 = omega arith in
-    record { second = c.number-at.ensures; reads = ap (λ (n : ℕ). take n (drop 19 b)) rs; writes = λ i. take (ws i) (drop (at i) b) }
+    record { second = c.number_at.ensures; reads = ap (λ (n : ℕ). take n (drop 19 b)) rs; writes = λ i. take (ws i) (drop (at i) b) }

@@ -18,42 +18,42 @@ use Rattle.frame.proofs.reader.read.Goals as goal
 abbrev front : List ℕ → List Field
 front b = mark_fields b ++ header_fields (get_or b 5 0) (header_in b)
 
-pub returns-in-err-kind : goal.returns-in-err-kind
-returns-in-err-kind c =
-    let p = err_from_is_err_and c.from-residual.result c.from-residual.ensures.1 in
-    rw (p.1, p.2) (before _ c.in-err-kind.ensures)
+pub returns-in_err-kind : goal.returns-in_err-kind
+returns-in_err-kind c =
+    let p = err_from_is_err_and c.from_residual.result c.from_residual.ensures.1 in
+    rw (p.1, p.2) (before _ c.in_err-kind.ensures)
 
-pub returns-in-err-content : goal.returns-in-err-content
-returns-in-err-content c =
+pub returns-in_err-content : goal.returns-in_err-content
+returns-in_err-content c =
     let b = c.args.bytes.now in
-    let p = err_from_is_err_and c.from-residual-in-err-content.result c.from-residual-in-err-content.ensures.1 in
-    rw (p.1, p.2) (after (front b) c.in-ok-kind.ensures.0 (before (end_field b ∷ []) c.in-err-content.ensures))
+    let p = err_from_is_err_and c.from_residual-in_err-content.result c.from_residual-in_err-content.ensures.1 in
+    rw (p.1, p.2) (after (front b) c.in_ok-kind.ensures.0 (before (end_field b ∷ []) c.in_err-content.ensures))
 
-pub returns-in-err-check : goal.returns-in-err-check
-returns-in-err-check c =
+pub returns-in_err-check : goal.returns-in_err-check
+returns-in_err-check c =
     let b = c.args.bytes.now in
-    let e = ap (λ (f : Field). f ∷ []) (c.end-field-end.ensures ∙ ap (λ (k : ℕ). ending (length b) k) c.end-of.ensures) in
-    let p = err_from_is_err_and c.from-residual-in-err-check.result c.from-residual-in-err-check.ensures.1 in
-    rw (p.1, p.2) (after (front b) c.in-ok-kind.ensures.0 (after (part_fields (get_or b 6 0) (part_in b)) c.in-ok-content.ensures.0 (same_breaks e c.in-err-check.ensures.verdict)))
+    let e = ap (λ (f : Field). f ∷ []) (c.end_field-end.ensures ∙ ap (λ (k : ℕ). ending (length b) k) c.end_of.ensures) in
+    let p = err_from_is_err_and c.from_residual-in_err-check.result c.from_residual-in_err-check.ensures.1 in
+    rw (p.1, p.2) (after (front b) c.in_ok-kind.ensures.0 (after (part_fields (get_or b 6 0) (part_in b)) c.in_ok-content.ensures.0 (same_breaks e c.in_err-check.ensures.verdict)))
 
-pub message-of-requires : goal.message-of-requires
-message-of-requires c =
+pub message_of-requires : goal.message_of-requires
+message_of-requires c =
     let b = c.args.bytes.now in
     let n = length b in
-    let h = c.in-ok-kind.ensures in
+    let h = c.in_ok-kind.ensures in
     let r = ruled n (get_or b 5 0) (header_in b) (pass_last n (mark_fields b) (header_fields (get_or b 5 0) (header_in b)) h.0) in
-    (subst (λ (p : ℕ × Header). Ruled p.0 p.1) (sym h.1) r, told b c.in-ok-content.content c.in-ok-content.ensures.1 ∙ ap (λ (p : ℕ × Header). eqb p.1.content 1) (sym h.1))
+    (subst (λ (p : ℕ × Header). Ruled p.0 p.1) (sym h.1) r, told b c.in_ok-content.content c.in_ok-content.ensures.1 ∙ ap (λ (p : ℕ × Header). eqb p.1.content 1) (sym h.1))
 
 pub returns : goal.returns
 returns c =
     let b = c.args.bytes.now in
     let n = length b in
-    let f : Bytes b = λ i. omega (arith, c.type-inv.bytes i) in
-    let h = c.in-ok-kind.ensures in
-    let k = c.in-ok-content.ensures in
+    let f : Bytes b = λ i. omega (arith, c.type_inv.bytes i) in
+    let h = c.in_ok-kind.ensures in
+    let k = c.in_ok-content.ensures in
     let part = part_fields (get_or b 6 0) (part_in b) in
-    let e = ap (λ (f : Field). f ∷ []) (c.end-field-end.ensures ∙ ap (λ (k : ℕ). ending (length b) k) c.end-of.ensures) in
-    let q : Passes n (byte_fields b) = pass_both n (front b) (part ++ (end_field b ∷ [])) h.0 (pass_both n part (end_field b ∷ []) k.0 (same_passes n e c.in-ok-check.ensures.verdict)) in
-    let content = content_is b f c.in-ok-content.content k.1 k.0 in
-    let v : value_in b ≡ value c.message-of.result = sym (c.message-of.ensures.means ∙ (λ i. stated (h.1 i).0 (h.1 i).1 (content i))) in
-    (subst (λ (x : Value). Lawful x) v (lawful b f q), whole b f q ∙ ap frame v, subst (λ (o : Option Parts). PartsOf b o) (sym c.message-of.ensures.holds) k.1)
+    let e = ap (λ (f : Field). f ∷ []) (c.end_field-end.ensures ∙ ap (λ (k : ℕ). ending (length b) k) c.end_of.ensures) in
+    let q : Passes n (byte_fields b) = pass_both n (front b) (part ++ (end_field b ∷ [])) h.0 (pass_both n part (end_field b ∷ []) k.0 (same_passes n e c.in_ok-check.ensures.verdict)) in
+    let content = content_is b f c.in_ok-content.content k.1 k.0 in
+    let v : value_in b ≡ value c.message_of.result = sym (c.message_of.ensures.means ∙ (λ i. stated (h.1 i).0 (h.1 i).1 (content i))) in
+    (subst (λ (x : Value). Lawful x) v (lawful b f q), whole b f q ∙ ap frame v, subst (λ (o : Option Parts). PartsOf b o) (sym c.message_of.ensures.holds) k.1)

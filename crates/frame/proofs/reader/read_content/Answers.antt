@@ -15,19 +15,19 @@ use Rattle.frame.proofs.reader.read_content.Goals as goal
 fields : (b : List ℕ) → get_or b 12 0 ≡ 1 → part_fields (get_or b 6 0) (Some (content_in b)) ≡ part_fields (get_or b 6 0) (part_in b)
 fields b h = ap (λ (o : Option Part). part_fields (get_or b 6 0) o) (sym (announced b h))
 
-pub returns-in-err-check-content-at : goal.returns-in-err-check-content-at
-returns-in-err-check-content-at c =
+pub returns-in_err-check_content_at : goal.returns-in_err-check_content_at
+returns-in_err-check_content_at c =
     let b = c.args.bytes.now in
     let one : get_or b 12 0 ≡ 1 = ap (λ (h : Header). h.content) (sym c.requires) ∙ c.if-header-ne1.false in
-    let p = err_from_is_err_and c.from-residual.result c.from-residual.ensures.1 in
-    rw (p.1, p.2) (same_breaks (fields b one) c.in-err-check-content-at.ensures)
+    let p = err_from_is_err_and c.from_residual.result c.from_residual.ensures.1 in
+    rw (p.1, p.2) (same_breaks (fields b one) c.in_err-check_content_at.ensures)
 
-pub parts-at-requires : goal.parts-at-requires
-parts-at-requires c =
+pub parts_at-requires : goal.parts_at-requires
+parts_at-requires c =
     let b = c.args.bytes.now in
-    let r = c.byte-at-reads.ensures in
-    let w = c.byte-at-writes.ensures in
-    let o = (whole_part (length b) (get_or b 6 0) (content_in b) c.in-ok-check-content-at.ensures).room in
+    let r = c.byte_at-reads.ensures in
+    let w = c.byte_at-writes.ensures in
+    let o = (whole_part (length b) (get_or b 6 0) (content_in b) c.in_ok-check_content_at.ensures).room in
     let lr = length_rows reading (get_or b 17 0) (drop 19 b) in
     let lw = length_rows writing (get_or b 18 0) (drop (9 * get_or b 17 0) (drop 19 b)) in
     (r, (w, omega arith))
@@ -36,4 +36,4 @@ pub returns : goal.returns
 returns c =
     let b = c.args.bytes.now in
     let one : get_or b 12 0 ≡ 1 = ap (λ (h : Header). h.content) (sym c.requires) ∙ c.if-header-ne1.false in
-    (same_passes (length b) (fields b one) c.in-ok-check-content-at.ensures, (one, c.parts-at.ensures))
+    (same_passes (length b) (fields b one) c.in_ok-check_content_at.ensures, (one, c.parts_at.ensures))

@@ -5,24 +5,24 @@ use Rattle.layout.specs.Format.{header_fields}
 use Rattle.layout.specs.Frames.{header_in, mark_fields}
 use Rattle.frame.proofs.reader.read_header.Goals as goal
 
-pub returns-in-err-rest : goal.returns-in-err-rest
-returns-in-err-rest c =
-    let p = err_from_is_err_and c.from-residual.result c.from-residual.ensures.1 in
-    rw (p.1, p.2) (before _ c.in-err-rest.ensures)
+pub returns-in_err-rest : goal.returns-in_err-rest
+returns-in_err-rest c =
+    let p = err_from_is_err_and c.from_residual.result c.from_residual.ensures.1 in
+    rw (p.1, p.2) (before _ c.in_err-rest.ensures)
 
-pub returns-in-err-check : goal.returns-in-err-check
-returns-in-err-check c =
+pub returns-in_err-check : goal.returns-in_err-check
+returns-in_err-check c =
     let b = c.args.bytes.now in
-    let m = c.in-ok-rest.ensures in
-    let k : c.from-kind.result ≡ get_or b 5 0 = c.from-kind.ensures ∙ c.byte-at.ensures ∙ ap (λ (t : List ℕ). get_or t 0 0) m.1 ∙ get_or-drop 5 b 0 0 in
-    let e = c.header_fields.ensures ∙ (λ i. header_fields (k i) (c.header-of-header.ensures i)) in
-    let p = err_from_is_err_and c.from-residual-in-err-check.result c.from-residual-in-err-check.ensures.1 in
-    rw (p.1, p.2) (after (mark_fields b) m.0 (same_breaks e c.in-err-check.ensures.verdict))
+    let m = c.in_ok-rest.ensures in
+    let k : c.from-kind.result ≡ get_or b 5 0 = c.from-kind.ensures ∙ c.byte_at.ensures ∙ ap (λ (t : List ℕ). get_or t 0 0) m.1 ∙ get_or-drop 5 b 0 0 in
+    let e = c.header_fields.ensures ∙ (λ i. header_fields (k i) (c.header_of-header.ensures i)) in
+    let p = err_from_is_err_and c.from_residual-in_err-check.result c.from_residual-in_err-check.ensures.1 in
+    rw (p.1, p.2) (after (mark_fields b) m.0 (same_breaks e c.in_err-check.ensures.verdict))
 
 pub returns : goal.returns
 returns c =
     let b = c.args.bytes.now in
-    let m = c.in-ok-rest.ensures in
-    let k : c.from-kind.result ≡ get_or b 5 0 = c.from-kind.ensures ∙ c.byte-at.ensures ∙ ap (λ (t : List ℕ). get_or t 0 0) m.1 ∙ get_or-drop 5 b 0 0 in
-    let e = c.header_fields.ensures ∙ (λ i. header_fields (k i) (c.header-of-header.ensures i)) in
-    (pass_both (length b) (mark_fields b) (header_fields (get_or b 5 0) (header_in b)) m.0 (same_passes (length b) e c.in-ok-check.ensures.verdict), λ i. (k i, c.header-of-header.ensures i))
+    let m = c.in_ok-rest.ensures in
+    let k : c.from-kind.result ≡ get_or b 5 0 = c.from-kind.ensures ∙ c.byte_at.ensures ∙ ap (λ (t : List ℕ). get_or t 0 0) m.1 ∙ get_or-drop 5 b 0 0 in
+    let e = c.header_fields.ensures ∙ (λ i. header_fields (k i) (c.header_of-header.ensures i)) in
+    (pass_both (length b) (mark_fields b) (header_fields (get_or b 5 0) (header_in b)) m.0 (same_passes (length b) e c.in_ok-check.ensures.verdict), λ i. (k i, c.header_of-header.ensures i))

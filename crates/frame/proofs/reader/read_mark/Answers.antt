@@ -10,5 +10,5 @@ returns-in-84 c = ((grind (arith, nat_tests), (grind (arith, nat_tests), tt)), t
 pub returns-in-84-2 : goal.returns-in-84-2
 returns-in-84-2 c = there (grind (arith, nat_tests)) (here (grind (arith, nat_tests)) refl)
 
-pub returns-in-default : goal.returns-in-default
-returns-in-default c = here (grind (arith, nat_tests)) refl
+pub returns-in_default : goal.returns-in_default
+returns-in_default c = here (grind (arith, nat_tests)) refl
