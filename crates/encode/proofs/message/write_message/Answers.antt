@@ -7,7 +7,7 @@ use Rattle.encode.proofs.message.write_message.Goals as goal
 
 pub returns-in-None : goal.returns-in-None
 returns-in-None c =
-    let e : given c.kind-kind.result c.bare-fields.result ≡ value c.args.message.now =
-    ap (λ (f : Fields). given c.kind-kind.result f) c.bare-fields.ensures
+    let e : given c.kind-kind.result c.bare_fields.result ≡ value c.args.message.now =
+    ap (λ (f : Fields). given c.kind-kind.result f) c.bare_fields.ensures
     ∙ ((λ i. stated (c.kind-kind.ensures i) (c.header-header.ensures i) (content_of (c.in-None.ensures i))) ∙ told c.args.message.now) in
-    same_writes c.args.at c.args.buf.now c.write-fields.new.buf c.write-fields.result e c.write-fields.ensures
+    same_writes c.args.at c.args.buf.now c.write_fields.new.buf c.write_fields.result e c.write_fields.ensures
