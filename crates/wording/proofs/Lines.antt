@@ -1,6 +1,5 @@
 -- A message can be read back from its line.
 use Rattle.std.proofs.Common.{◌≡◌, ℕ, ◌<◌, Bool, true, false, List, [], ◌∷◌, ◌++◌, map, Some, None, codes, decimal, Option, sym, refl, ap, ◌∙◌, append_assoc, arith}
-use lib.Utf8.{encode}
 use Rattle.std.proofs.lemmas.Str.{encode_same}
 use Rattle.content.specs.declared.rows.Read.{Read}
 use Rattle.content.specs.declared.rows.Write.{Write}

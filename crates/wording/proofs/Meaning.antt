@@ -35,7 +35,7 @@ with_part k h f q e s r w =
 
 -- the rows that were read of bytes, lent as a slice
 pub rows_lent :
-    {X : Type 0} (l : Layout X) {a b : Bor (List ℕ)} {lent IfOk : List X} → lent ≡ IfOk → IfOk ≡ rows_in l (length a.now / width l) a.now → a ≡ b
+    {X : Type 0} (l : Layout X) {a b : Bor (List ℕ)} {lent made : List X} → lent ≡ made → made ≡ rows_in l (length a.now / width l) a.now → a ≡ b
     → lent ≡ rows_in l (length b.now / width l) b.now
 rows_lent l p q r = p ∙ (q ∙ ap (λ (t : Bor (List ℕ)). rows_in l (length t.now / width l) t.now) r)
 

@@ -1,5 +1,5 @@
 use Rattle.std.proofs.Common.{◌≡◌, ℕ, ◌+◌, ◌-◌, ◌*◌, ◌/◌, ◌<◌, ◌≤◌, List, [], ◌∷◌, ◌++◌, map, length, get_or, take, drop, sym, refl, ap, ◌∙◌, append_assoc, append-nil, add-one, arith, lit<}
-use lib.Utf8.{encode}
+use Rattle.std.specs.Prelude.{encode_utf8}
 use Rattle.std.proofs.lemmas.List.{map-append, take_all, take_more}
 use Rattle.std.proofs.lemmas.Str.{encode_ascii}
 use Rattle.layout.specs.Numbers.{Layout, width, rows_in}
@@ -16,12 +16,12 @@ module _ {X : Type 0} (word : X → List ℕ) where
   -- one more row, written after a space
   pub spaced_more :
       (front t u v : List ℕ) (xs : List X) (i : ℕ) (x : X) → i < length xs → x ≡ get_or xs i x → t ≡ front ++ spaced (map word (take i xs))
-      → u ≡ t ++ encode 32 → v ≡ u ++ word x → v ≡ front ++ spaced (map word (take (i + 1) xs))
+      → u ≡ t ++ encode_utf8 32 → v ≡ u ++ word x → v ≡ front ++ spaced (map word (take (i + 1) xs))
   spaced_more front t u v xs i x l at p q r =
       let more : take (i + 1) xs ≡ take i xs ++ x ∷ [] = take_more xs i x l ∙ ap (λ (y : X). take i xs ++ y ∷ []) (sym at) in
       let words : map word (take (i + 1) xs) ≡ map word (take i xs) ++ word x ∷ [] = ap (map word) more ∙ map-append word (take i xs) (x ∷ []) in
       let last : spaced (map word (take (i + 1) xs)) ≡ spaced (map word (take i xs)) ++ (32 ∷ word x) = ap spaced words ∙ spaced_push (map word (take i xs)) (word x) in
-      let space : encode 32 ≡ 32 ∷ [] = encode_ascii 32 (lit< tt) in
+      let space : encode_utf8 32 ≡ 32 ∷ [] = encode_ascii 32 (lit< tt) in
       rw (r, q, p, space, last, append_assoc, append_assoc)
 
   -- the first row, and the others after it

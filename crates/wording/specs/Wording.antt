@@ -1,6 +1,5 @@
-use Rattle.std.specs.Prelude.{ℕ, List, [], ◌∷◌, ◌++◌, map, Some, None, codes, decimal, Option}
+use Rattle.std.specs.Prelude.{ℕ, List, [], ◌∷◌, ◌++◌, map, Some, None, codes, decimal, Option, encode_utf8}
 use Prim.Native.String.{String}
-use Rattle.std.proofs.Math.Utf8.{encode}
 use Rattle.content.specs.declared.rows.Read.{Read}
 use Rattle.content.specs.declared.rows.Write.{Write}
 use Rattle.layout.specs.declared.fields.Fields.{Fields}
@@ -44,7 +43,7 @@ rest_text accepted accepted_view content =
 -- a frame in one line
 abbrev pub text : Value → List ℕ
 text v =
-    encode v.letter
+    encode_utf8 v.letter
     ++ labelled ((" filing=", v.transaction) ∷ (" sender=", v.sender) ∷ (" view=", v.view) ∷ (" code=", v.code) ∷ [])
     (rest_text v.accepted v.accepted_view v.content)
 
