@@ -8,15 +8,15 @@ returns-then-line-ne0 c =
     let e = sym (unhex_odd c.args.line.now (omega arith)) in
     record { value = e; spelled = read_as c.args.line.now None e }
 
-pub returns-in-default : goal.returns-in-default
-returns-in-default c =
-    let e = sym (after_broken c.args.line.now (vec_items c.loop-i.bytes) c.loop-i.i (omega arith) (sym c.in-default.ensures) c.loop-i.invariant) in
+pub returns-in_default : goal.returns-in_default
+returns-in_default c =
+    let e = sym (after_broken c.args.line.now (vec_items c.loop-i.bytes) c.loop-i.i (omega arith) (sym c.in_default.ensures) c.loop-i.invariant) in
     record { value = e; spelled = read_as c.args.line.now None e }
 
 pub loop-i-preserved : goal.loop-i-preserved
 loop-i-preserved c =
     let more = after_more c.args.line.now (vec_items c.loop-i.bytes) c.loop-i.i c.in-Some.byte (omega arith) (sym c.in-Some.ensures) c.loop-i.invariant in
-    rw c.in-ok-push.ensures.items more
+    rw c.in_ok-push.ensures.items more
 
 pub returns : goal.returns
 returns c =
