@@ -36,7 +36,8 @@ fn write_rows(
     header: &Header,
     parts: &Parts<'_>,
 ) -> Result<usize, Refusal>
-    requires { (length parts.now.reads.now / 9 ≤ 4) × (length parts.now.writes.now / 8 ≤ 4) }
+    requires few_reads { length parts.now.reads.now / 9 ≤ 4 }
+    requires few_writes { length parts.now.writes.now / 8 ≤ 4 }
     ensures { Writes (stated kind header.now (Some (part_of parts.now))) at buf.old result buf.new }
 {
     let reads = parts.reads().len() / 9;

@@ -96,7 +96,9 @@ fn join(part: &mut [u8], head: &[u8], rest: &[u8])
 
 // Fills the part with the head and a content, whose bytes there are as it has few rows.
 fn join_content(part: &mut [u8], head: &[u8], content: ContentFields<'_>)
-    requires { (length content.reads.now ≤ 4) × ((length content.writes.now ≤ 4) × (length part.old ≡ length head.now + (6 + 9 * length content.reads.now + 8 * length content.writes.now))) }
+    requires few_reads { length content.reads.now ≤ 4 }
+    requires few_writes { length content.writes.now ≤ 4 }
+    requires whole { length part.old ≡ length head.now + (6 + 9 * length content.reads.now + 8 * length content.writes.now) }
     ensures { part.new ≡ head.now ++ part_bytes (part_given (Some content.entry)) }
 {
     let n = part.len() - head.len();
@@ -107,7 +109,8 @@ fn join_content(part: &mut [u8], head: &[u8], content: ContentFields<'_>)
 
 // Fills a part of just the frame's length.
 fn fill(part: &mut [u8], kind: char, fields: &Fields<'_>)
-    requires { (Passes 87 (value_fields (given kind fields.now))) × (length part.old ≡ size (part_given fields.now.content)) }
+    requires lawful { Passes 87 (value_fields (given kind fields.now)) }
+    requires whole { length part.old ≡ size (part_given fields.now.content) }
     ensures { part.new ≡ frame (given kind fields.now) }
 {
     let head = head_bytes(kind, fields);

@@ -51,8 +51,10 @@ fn check_rows_at(
     writes: usize,
     timestamp: Timestamp,
 ) -> Result<(), Refusal>
-    requires { (reads ≤ 4) × (writes ≤ 4) }
-    ensures { Checked (length bytes.now) (content_fields timestamp (rows_in reading reads (drop 19 bytes.now)) (rows_in writing writes (drop (9 * reads) (drop 19 bytes.now)))) result }
+    requires few_reads { reads ≤ 4 }
+    requires few_writes { writes ≤ 4 }
+    ensures { let rows = drop 19 bytes.now in
+        Checked (length bytes.now) (content_fields timestamp (rows_in reading reads rows) (rows_in writing writes (drop (9 * reads) rows))) result }
 {
     let rows = tail_at(bytes, 19);
     let read_rows: [Read; 4] = rows_in(rows, reads);
@@ -72,7 +74,9 @@ fn check_content_at(
     writes: usize,
     transaction: u32,
 ) -> Result<(), Refusal>
-    requires { (reads ≡ slice_index bytes.now 17) × ((writes ≡ slice_index bytes.now 18) × (transaction ≡ slice_index bytes.now 6)) }
+    requires reads_there { reads ≡ slice_index bytes.now 17 }
+    requires writes_there { writes ≡ slice_index bytes.now 18 }
+    requires transaction_there { transaction ≡ slice_index bytes.now 6 }
     ensures { Checked (length bytes.now) (part_fields (slice_index bytes.now 6) (Some (content_in bytes.now))) result }
 {
     check(&count_fields(reads, writes), bytes.len())?;
@@ -82,7 +86,9 @@ fn check_content_at(
 
 // The parts of the bytes that hold a content.
 fn parts_at(bytes: &[u8], reads: usize, writes: usize) -> Parts<'_>
-    requires { (reads ≡ slice_index bytes.now 17) × ((writes ≡ slice_index bytes.now 18) × (19 + 9 * reads + 8 * writes ≤ length bytes.now)) }
+    requires reads_there { reads ≡ slice_index bytes.now 17 }
+    requires writes_there { writes ≡ slice_index bytes.now 18 }
+    requires room { 19 + 9 * reads + 8 * writes ≤ length bytes.now }
     ensures { PartsIn bytes.now result }
 {
     let middle = 19 + 9 * reads;
@@ -95,7 +101,8 @@ fn parts_at(bytes: &[u8], reads: usize, writes: usize) -> Parts<'_>
 
 // The kind and the numbers of the header.
 fn read_header(bytes: &[u8]) -> Result<(char, Header), Refusal>
-    ensures { Checking (length bytes.now) (mark_fields bytes.now ++ header_fields (slice_index bytes.now 5) (header_in bytes.now)) (λ h. h ≡ (slice_index bytes.now 5, header_in bytes.now)) result }
+    ensures { let b = bytes.now in
+        Checking (length b) (mark_fields b ++ header_fields (slice_index b 5) (header_in b)) (λ h. h ≡ (slice_index b 5, header_in b)) result }
 {
     let rest = read_mark(bytes)?;
     let kind = char::from(byte_at(rest, 0));
@@ -120,7 +127,8 @@ fn read_content<'a>(bytes: &'a [u8], header: &Header) -> Result<Option<Parts<'a>
 
 // The vote or the outcome with a number that is known to have one.
 fn outcome_of(number: u32) -> Outcome
-    requires { (1 ≤ number) × (number ≤ 2) }
+    requires least { 1 ≤ number }
+    requires most { number ≤ 2 }
     ensures { outcome_number result ≡ number }
 {
     match number {
@@ -141,7 +149,8 @@ fn vote_of(number: u32) -> Option<Vote>
 }
 
 fn accepted_of(number: u32, view: u32) -> Option<Proposal>
-    requires { (number ≤ 2) × ((number ≡ 0 → view ≡ 0)) }
+    requires most { number ≤ 2 }
+    requires none { number ≡ 0 → view ≡ 0 }
     ensures number { accepted_number result ≡ number }
     ensures view { accepted_view result ≡ view }
 {
@@ -183,7 +192,8 @@ fn end_field(length: usize, end: usize) -> Field
 
 // The message of a header that obeys its rules.
 fn message_of<'a>(kind: char, header: &Header, content: Option<Parts<'a>>) -> Message<'a>
-    requires { (Ruled kind header.now) × (is_some content ≡ (header.now.content == 1)) }
+    requires ruled { Ruled kind header.now }
+    requires told { is_some content ≡ (header.now.content == 1) }
     ensures means { value result ≡ stated kind header.now (content_of content.entry) }
     ensures holds { parts result ≡ content.entry }
 {

@@ -13,7 +13,8 @@ pub data Says (line words : List ℕ) (refused : Bool) : Type 0 where
   -- it spells no bytes
   not_hex : unhex line ≡ None → words ≡ codes "not hex" → refused ≡ true → Says line words refused
   -- it spells bytes with a fault
-  broken : (b : List ℕ) (e : Refusal) → unhex line ≡ Some b → Breaks (length b) (byte_fields b) e → words ≡ refusal_text e → refused ≡ true → Says line words refused
+  broken : (b : List ℕ) (e : Refusal) → unhex line ≡ Some b → Breaks (length b) (byte_fields b) e → words ≡ refusal_text e
+      → refused ≡ true → Says line words refused
   -- it spells the frame of a message
   framed : (v : Value) → unhex line ≡ Some (frame v) → Lawful v → words ≡ text v → refused ≡ false → Says line words refused
 

@@ -5,7 +5,10 @@ between low high c = nat_le low c && nat_le c high
 
 -- the value of a hex digit in either case
 abbrev pub digit : ℕ → Option ℕ
-digit c = cond (between 48 57 c) (Some (c - 48)) (cond (between 97 102 c) (Some (c - 97 + 10)) (cond (between 65 70 c) (Some (c - 65 + 10)) None))
+digit c =
+    cond (between 48 57 c) (Some (c - 48))
+    (cond (between 97 102 c) (Some (c - 97 + 10))
+    (cond (between 65 70 c) (Some (c - 65 + 10)) None))
 
 abbrev pub paired : Option ℕ → Option ℕ → Option ℕ
 paired None l = None
@@ -34,7 +37,10 @@ pub record Stands (c n : ℕ) : Type 0 where
 
 -- the characters 2 * i and 2 * i + 1 spell the byte i
 abbrev pub Pair : List ℕ → List ℕ → ℕ → Type 0
-Pair cs bs i = (h : ℕ) × ((l : ℕ) × (Stands (slice_index cs (2 * i)) h × Stands (slice_index cs (2 * i + 1)) l × (slice_index bs i ≡ 16 * h + l)))
+Pair cs bs i =
+    (h : ℕ)
+    × ((l : ℕ)
+    × (Stands (slice_index cs (2 * i)) h × Stands (slice_index cs (2 * i + 1)) l × (slice_index bs i ≡ 16 * h + l)))
 
 -- each byte is spelled by its pair, and no character is left
 pub record Spells (cs bs : List ℕ) : Type 0 where

@@ -13,8 +13,8 @@ returns c =
     let b = c.args.bytes.now in
     let r = c.args.reads in
     let w = c.args.writes in
-    let fr = few r c.requires.0 in
-    let fw = few w c.requires.1 in
+    let fr = few r c.requires.few_reads in
+    let fw = few w c.requires.few_writes in
     let rest = c.tail_at-rows.ensures in
     let rs : take (r - 0) c.rows_in-read_rows.result ≡ rows_in reading r (drop 19 b) =
     rw sub-zero ((λ i. take (sym fr i) c.rows_in-read_rows.result) ∙ c.rows_in-read_rows.ensures ∙ (λ i. rows_in reading (fr i) (rest i))) in

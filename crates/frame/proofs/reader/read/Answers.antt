@@ -42,7 +42,10 @@ message_of-requires c =
     let n = length b in
     let h = c.in_ok-kind.ensures in
     let r = ruled n (get_or b 5 0) (header_in b) (pass_last n (mark_fields b) (header_fields (get_or b 5 0) (header_in b)) h.0) in
-    (subst (λ (p : ℕ × Header). Ruled p.0 p.1) (sym h.1) r, told b c.in_ok-content.content c.in_ok-content.ensures.1 ∙ ap (λ (p : ℕ × Header). eqb p.1.content 1) (sym h.1))
+    record {
+      ruled = subst (λ (p : ℕ × Header). Ruled p.0 p.1) (sym h.1) r;
+      told = told b c.in_ok-content.content c.in_ok-content.ensures.1 ∙ ap (λ (p : ℕ × Header). eqb p.1.content 1) (sym h.1);
+    }
 
 pub returns : goal.returns
 returns c =

@@ -30,7 +30,7 @@ parts_at-requires c =
     let o = (whole_part (length b) (get_or b 6 0) (content_in b) c.in_ok-check_content_at.ensures).room in
     let lr = length_rows reading (get_or b 17 0) (drop 19 b) in
     let lw = length_rows writing (get_or b 18 0) (drop (9 * get_or b 17 0) (drop 19 b)) in
-    (r, (w, omega arith))
+    record { reads_there = r; writes_there = w; room = omega arith }
 
 pub returns : goal.returns
 returns c =
