@@ -1,21 +1,20 @@
 -- What a reader has checked, put together.
-use Rattle.std.proofs.Common.{◌≡◌, ℕ, ◌+◌, ◌*◌, ◌/◌, ◌<◌, ◌≤◌, Bool, true, false, cond, eqb, leb, List, [], ◌∷◌, ◌++◌, length, get_or, take, drop, is_some, Some, None, Ok, Err, Option, Result, sym, refl, ap, ◌∙◌, subst, append_assoc, append-nil, arith, length-drop, length-take-le, drop-drop, eq-eqb, ne_eqb}
+use Rattle.std.proofs.Common.{◌≡◌, ℕ, ◌+◌, ◌*◌, ◌/◌, ◌≤◌, Bool, cond, eqb, leb, List, [], length, get_or, take, drop, is_some, Some, None, Ok, Err, Option, Result, sym, ap, ◌∙◌, subst, append-nil, arith, length-drop, length-take-le, drop-drop, eq-eqb, ne_eqb}
 use Rattle.std.proofs.lemmas.Bool.{and_parts}
 use Rattle.values.specs.declared.refusal.Refusal.{Refusal}
-use Rattle.field.specs.declared.Field.{Field}
-use Rattle.field.specs.Layouts.{holds, Passes, Breaks, ranged}
+use Rattle.field.specs.Layouts.{Passes}
 use Rattle.field.proofs.Faults.{same_passes}
 use Rattle.field.proofs.Verdict.{never_both}
 use Rattle.layout.specs.declared.format.Header.{Header}
 use Rattle.frame.specs.declared.message.Parts.{Parts}
 use Rattle.frame.specs.declared.message.Message.{Message}
-use Rattle.layout.specs.Values.{Part, Value, size}
+use Rattle.layout.specs.Values.{Part, size}
 use Rattle.layout.specs.Numbers.{Layout, width, laid, rows_in, reading, writing}
 use Rattle.layout.specs.Format.{rules, header_fields, accepted_view_limits, content_limits, part_fields}
-use Rattle.layout.specs.Frames.{frame, Lawful, header_in, content_in, part_in, value_in, end_field, byte_fields}
-use Rattle.frame.specs.Messages.{part_of, content_of, value, PartsIn, PartsOf, parts, Reads, Answers, Yields, OneFrame, Ruled, Within}
+use Rattle.layout.specs.Frames.{content_in, part_in, value_in, byte_fields}
+use Rattle.frame.specs.Messages.{part_of, content_of, value, PartsIn, PartsOf, Reads, Yields, OneFrame, Ruled}
 use Rattle.layout.proofs.Rows.{Bytes, drop_bytes, Exact, exact_read, exact_write, length_rows, laid_rows, rows_laid, rows_fit}
-use Rattle.layout.proofs.Whole.{in_limits, whole_part, whole, lawful}
+use Rattle.layout.proofs.Whole.{in_limits, whole_part}
 use Rattle.layout.proofs.Back.{value_back, frame_passes}
 
 -- whether the flag announces a content

@@ -1,5 +1,5 @@
 -- What each of the seven messages means, and what reading promises.
-use Rattle.std.specs.Prelude.{◌≡◌, ℕ, ◌+◌, ◌*◌, ◌/◌, ◌≤◌, true, List, [], ◌∷◌, length, take, drop, Some, None, Ok, Err, Option, Result, slice_index}
+use Rattle.std.specs.Prelude.{◌≡◌, ℕ, ◌+◌, ◌*◌, ◌/◌, ◌≤◌, true, List, length, take, drop, Some, None, Ok, Err, Option, Result, slice_index}
 use Rattle.values.specs.Numbers.{vote_number, outcome_number}
 use Rattle.values.specs.declared.decision.Proposal.{Proposal}
 use Rattle.values.specs.declared.refusal.Refusal.{Refusal}

@@ -1,5 +1,5 @@
 -- Of a line only one thing is said.
-use Rattle.std.proofs.Common.{◌≡◌, ℕ, Bool, true, false, List, length, Some, None, Option, sym, refl, ap, ◌∙◌, subst, arith}
+use Rattle.std.proofs.Common.{◌≡◌, ℕ, List, length, Some, None, Option, sym, ap, ◌∙◌, subst, arith}
 use Rattle.values.specs.declared.refusal.Refusal.{Refusal}
 use Rattle.field.specs.Layouts.{Breaks}
 use Rattle.field.proofs.Verdict.{one_verdict}
@@ -7,7 +7,7 @@ use Rattle.layout.specs.Frames.{frame, Lawful, byte_fields}
 use Rattle.layout.specs.Values.{Value}
 use Rattle.layout.proofs.Back.{frame_passes}
 use Rattle.frame.proofs.Read.{one_frame}
-use Rattle.inspection.specs.Saying.{Says, OneAnswer}
+use Rattle.inspection.specs.Saying.{OneAnswer}
 use Rattle.inspection.specs.Saying.Says.{not_hex, broken, framed}
 use Rattle.wording.specs.Wording.{text, refusal_text}
 

@@ -1,6 +1,6 @@
-use Rattle.std.proofs.Common.{◌≡◌, ℕ, ◌+◌, ◌-◌, ◌^◌, min, Bool, true, false, cond, List, [], ◌∷◌, length, count_by, sym, refl, ap, ◌∙◌, arith}
+use Rattle.std.proofs.Common.{◌≡◌, ℕ, ◌+◌, min, Bool, true, false, cond, List, [], ◌∷◌, length, count_by, refl, ap, ◌∙◌, arith}
 use Rattle.std.proofs.lemmas.List.Sums.{sum_by-cons}
-use Rattle.inspection.specs.Counting.{tally, none, top, counted, counted_all, Counts}
+use Rattle.inspection.specs.Counting.{tally, top, counted_all, Counts}
 use Rattle.inspection.specs.declared.tally.Tally.{Tally}
 
 abbrev one : Bool → ℕ

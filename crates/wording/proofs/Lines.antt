@@ -1,11 +1,11 @@
 -- A message can be read back from its line.
-use Rattle.std.proofs.Common.{◌≡◌, ℕ, ◌<◌, Bool, true, false, List, [], ◌∷◌, ◌++◌, map, Some, None, codes, decimal, Option, sym, refl, ap, ◌∙◌, append_assoc, arith}
+use Rattle.std.proofs.Common.{◌≡◌, ℕ, ◌<◌, true, false, List, [], ◌∷◌, ◌++◌, map, Some, None, codes, Option, sym, refl, ap, ◌∙◌, append_assoc, arith}
 use Rattle.std.proofs.lemmas.Str.{encode_same}
 use Rattle.content.specs.declared.rows.Read.{Read}
 use Rattle.content.specs.declared.rows.Write.{Write}
-use Rattle.layout.specs.Values.{Value, Part, flag}
-use Rattle.wording.specs.Apart.{Each, SizedRead, SizedWrite, SizedPart, SizedValue, ToldApart}
-use Rattle.wording.specs.Wording.{read_words, write_words, spaced, listed, labelled, tail_text, rest_text, text}
+use Rattle.layout.specs.Values.{Part, flag}
+use Rattle.wording.specs.Apart.{Each, SizedRead, SizedWrite, SizedPart, ToldApart}
+use Rattle.wording.specs.Wording.{read_words, write_words, spaced, listed, tail_text}
 use Rattle.wording.proofs.Figures.{ends, same_rest, same_number, number_starts}
 
 never : {X : Type 0} → true ≡ false → X

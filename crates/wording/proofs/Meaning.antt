@@ -1,5 +1,5 @@
 -- What is put together of a message's parts means that message.
-use Rattle.std.proofs.Common.{◌≡◌, ℕ, ◌/◌, List, length, IfOk, Some, None, Option, Result, refl, ap, ◌∙◌, subst, Bor}
+use Rattle.std.proofs.Common.{◌≡◌, ℕ, ◌/◌, List, length, IfOk, Some, Option, Result, refl, ap, ◌∙◌, subst, Bor}
 use Rattle.content.specs.declared.rows.Read.{Read}
 use Rattle.content.specs.declared.rows.Write.{Write}
 use Rattle.layout.specs.declared.fields.Fields.{Fields}

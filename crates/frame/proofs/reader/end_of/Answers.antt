@@ -1,4 +1,4 @@
-use Rattle.std.proofs.Common.{◌≡◌, ℕ, ◌+◌, ◌*◌, get_or, sym, ap, ◌∙◌, rules}
+use Rattle.std.proofs.Common.{◌≡◌, ◌+◌, ◌*◌, get_or, sym, ap, ◌∙◌}
 use Rattle.layout.specs.declared.format.Header.{Header}
 use Rattle.layout.specs.Values.{size}
 use Rattle.frame.proofs.Read.{size_announced, not_announced}

@@ -1,5 +1,4 @@
-use Rattle.std.proofs.Common.{◌≡◌, ◌+◌, ◌*◌, ◌<◌, length, Some, None, vec_items, sym, arith}
-use Rattle.inspection.specs.Spelling.{unhex}
+use Rattle.std.proofs.Common.{Some, None, vec_items, sym, arith}
 use Rattle.inspection.proofs.Bytes.{unhex_odd, after_more, after_broken, after_all, read_as}
 use Rattle.inspection.proofs.hex.from_hex.Goals as goal
 

@@ -1,4 +1,4 @@
-use Rattle.std.proofs.Common.{◌≡◌, ℕ, List, ◌++◌, string_bytes, ap, ◌∙◌, arith, ltb-false, ltb-true}
+use Rattle.std.proofs.Common.{ℕ, List, ◌++◌, string_bytes, ap, ◌∙◌, arith, ltb-false, ltb-true}
 use Rattle.wording.proofs.Rows.{spaced_more, listed_all, listed_none}
 use Rattle.wording.proofs.text.rows_text.Goals as goal
 
