@@ -1,13 +1,13 @@
 // Reading a frame.
 
-ghost use Rattle.std.specs.Prelude.{◌≡◌, ℕ, ◌+◌, ◌*◌, ◌≤◌, List, [], ◌∷◌, ◌++◌, length, drop, is_some, Some, ◌==◌, slice_index};
+ghost use Rattle.std.specs.Prelude.{◌≡◌, ◌+◌, ◌*◌, ◌≤◌, ◌++◌, length, drop, is_some, Some, ◌==◌, slice_index};
 ghost use Rattle.values.specs.Numbers.{vote_number, outcome_number};
 ghost use Rattle.field.specs.Layouts.{Checked, Checking};
-ghost use Rattle.layout.specs.Values.{flag, size};
+ghost use Rattle.layout.specs.Values.{size};
 ghost use Rattle.layout.specs.Numbers.{reading, writing, rows_in};
 ghost use Rattle.layout.specs.Format.{header_fields, content_fields, part_fields};
 ghost use Rattle.layout.specs.Frames.{header_in, content_in, part_in, mark_fields, ending};
-ghost use Rattle.frame.specs.Messages.{value, accepted_number, accepted_view, content_of, numbers, Ruled, PartsIn, PartsOf, Reads, Yields, OneFrame, stated, parts};
+ghost use Rattle.frame.specs.Messages.{value, accepted_number, accepted_view, content_of, Ruled, PartsIn, PartsOf, Reads, Yields, OneFrame, stated, parts};
 
 use crate::message::{Message, Parts};
 use content::rows::{Read, Write};
