@@ -11,6 +11,6 @@ returns c =
     let n = c.min-n.ensures in
     record {
       size = omega (arith, length-take p.len p.bytes, p.ok);
-      front = copied c.min-n.result p.len p.bytes c.copy-from-slice.new.self _ c.copy-from-slice.ensures.after (omega arith) (omega (arith, p.ok));
+      front = copied c.min-n.result p.len p.bytes c.copy_from_slice.new.self _ c.copy_from_slice.ensures.after (omega arith) (omega (arith, p.ok));
       rest = search (rules, overwrites);
     }

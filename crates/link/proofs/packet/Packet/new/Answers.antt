@@ -3,4 +3,4 @@ use Rattle.link.proofs.Frames.{packed}
 use Rattle.link.proofs.packet.Packet.new.Goals as goal
 
 pub returns : goal.returns
-returns c = (omega arith, packed _ _ _ _ _ c.copy-from-slice.ensures.after refl)
+returns c = (omega arith, packed _ _ _ _ _ c.copy_from_slice.ensures.after refl)

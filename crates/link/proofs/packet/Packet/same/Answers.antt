@@ -10,4 +10,4 @@ same_frames : (a b : ℕ) (xs ys : List ℕ) (r : Bool) → a ≡ b → Decides 
 same_frames a b xs ys r e d = (λ t. let s = d.0 t in λ i. (e i, s i), λ f. d.1 (ap (λ x. x.1) f))
 
 pub returns : goal.returns
-returns c = same_frames _ _ _ _ _ c.if-self-other.false (rw (sub-zero, sub-zero) at (slice_eq-Decides Decides-eqb _ _ _ c.eq.ensures))
+returns c = same_frames _ _ _ _ _ c.if-self-other.false (slice_eq-Decides Decides-eqb _ _ _ (simp sub-zero at c.eq.ensures))
