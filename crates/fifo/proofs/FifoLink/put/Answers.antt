@@ -8,4 +8,4 @@ returns-then-len-ge64 c = let v = c.args.self.now.frames in put_over (vec_items 
 pub returns : goal.returns
 returns c =
     let v = c.args.self.now.frames in
-    put_room (vec_items v) _ c.in-Some.packet c.args.to c.args.frame.now c.in-Some.ensures (omega (arith, v.ok.0)) c.push-reserved.ensures.items
+    put_room (vec_items v) _ c.in-Some.packet c.args.to c.args.frame.now c.in-Some.ensures (omega (arith, v.ok.0)) c.push_reserved.ensures.items
