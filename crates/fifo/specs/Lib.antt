@@ -1,4 +1,4 @@
+pub mod IsLink
 pub mod Laws
 pub mod Means
 pub mod Queues
-pub mod Orders

@@ -5,7 +5,7 @@ ghost use Rattle.std.specs.Prelude.{◌≡◌, [], map, IfOk};
 ghost use Rattle.link.specs.Packets.{frame_of};
 ghost use Rattle.fifo.specs.Queues.{first_place};
 ghost use Rattle.fifo.specs.Means.{fifo_waiting, FifoPuts, FifoTakes};
-ghost use Rattle.fifo.specs.Orders.{after_put, after_take};
+ghost use Rattle.fifo.specs.IsLink.{after_put, after_take};
 
 pub mod laws;
 pub mod queue;

@@ -1,4 +1,4 @@
-use Rattle.fifo.specs.Orders.{fifo_laws}
+use Rattle.fifo.proofs.Orders.{fifo_laws}
 use Rattle.fifo.proofs.laws.fifo_stands.Goals as goal
 
 pub returns : goal.returns

@@ -1,11 +1,9 @@
 -- What the queue's rules mean: which frame is handed out, and which frames stay.
-use Rattle.std.specs.Prelude.{◌≡◌, ℕ, ◌<◌, ◌≤◌, true, false, ◌||◌, ◌⊎◌, List, [], ◌∷◌, ◌++◌, length, Some, None, vec_items, Option, ◌==◌, nat_le, nat_lt, refl}
-use Rattle.std.proofs.Common.{sym, ap, ◌∙◌, subst, inl, inr, arith}
+use Rattle.std.proofs.Common.{◌≡◌, ℕ, ◌<◌, ◌≤◌, true, false, ◌||◌, eqb, ltb, leb, ◌⊎◌, List, [], ◌∷◌, ◌++◌, length, Some, None, vec_items, Option, sym, refl, ap, ◌∙◌, subst, inl, inr, arith}
 use Rattle.std.proofs.lemmas.List.{length-map}
-use Rattle.std.proofs.lemmas.Bool.{both_ways, cases_Bool, cases_lt, eqb-true, eq-eqb, or_left, or_right, or_from, lt-ltb, le-ltb, le-leb, lt-leb}
-use Rattle.link.specs.Frames.{Frame, Among, NoneFor, AfterPut, AfterTake}
+use Rattle.std.proofs.lemmas.Bool.{both_ways, cases_Bool, eqb-true, eq-eqb, or_left, or_right, or_from, lt-ltb, le-ltb, le-leb, lt-leb}
+use Rattle.link.specs.Frames.{Frame, Among, NoneFor}
 use Rattle.link.specs.Packets.{frame_of}
-use Rattle.link.proofs.Frames.{among_push, put_lost, put_kept}
 use Rattle.fifo.specs.Queues.{fifo_put, fifo_take}
 use Rattle.fifo.specs.Means.{fifo_waiting}
 use Rattle.fifo.specs.Laws.{OldestOf, FifoLaws}
@@ -15,11 +13,11 @@ abbrev Means : List Frame → ℕ → Option (List ℕ) → List Frame → Type 
 Means w a None w' = NoneFor a w × (w' ≡ w)
 Means w a (Some b) w' = OldestOf w a b w'
 
-other : (f : Frame) (w : List Frame) (a : ℕ) → (f.0 == a) ≡ false → NoneFor a w → NoneFor a (f ∷ w)
-other f w a n none b (inl e) = both_ways (f.0 == a) n (eq-eqb f.0 a (ap (λ x. x.0) (sym e)))
+other : (f : Frame) (w : List Frame) (a : ℕ) → eqb f.0 a ≡ false → NoneFor a w → NoneFor a (f ∷ w)
+other f w a n none b (inl e) = both_ways (eqb f.0 a) n (eq-eqb f.0 a (ap (λ x. x.0) (sym e)))
 other f w a n none b (inr m) = none b m
 
-later : (f : Frame) (w w' : List Frame) (a : ℕ) (o : Option (List ℕ)) → (f.0 == a) ≡ false → Means w a o w' → Means (f ∷ w) a o (f ∷ w')
+later : (f : Frame) (w w' : List Frame) (a : ℕ) (o : Option (List ℕ)) → eqb f.0 a ≡ false → Means w a o w' → Means (f ∷ w) a o (f ∷ w')
 later f w w' a None n (none, e) = (other f w a n none, ap (λ v. f ∷ v) e)
 later f w w' a (Some b) n s = record {
   before = f ∷ s.before;
@@ -31,9 +29,9 @@ later f w w' a (Some b) n s = record {
 
 means : (w : List Frame) (a : ℕ) → Means w a (fifo_take w a).0 (fifo_take w a).1
 means [] a = (λ b m. m, refl)
-means (f ∷ w) a = go (means w a) (cases_Bool (f.0 == a))
+means (f ∷ w) a = go (means w a) (cases_Bool (eqb f.0 a))
   where
-    go : Means w a (fifo_take w a).0 (fifo_take w a).1 → ((f.0 == a) ≡ true) ⊎ ((f.0 == a) ≡ false) → Means (f ∷ w) a (fifo_take (f ∷ w) a).0 (fifo_take (f ∷ w) a).1
+    go : Means w a (fifo_take w a).0 (fifo_take w a).1 → (eqb f.0 a ≡ true) ⊎ (eqb f.0 a ≡ false) → Means (f ∷ w) a (fifo_take (f ∷ w) a).0 (fifo_take (f ∷ w) a).1
     go more (inl t) =
         let e : f.0 ≡ a = eqb-true f.0 a t in
         rw t (record { before = []; after = w; split = λ i. (e i, f.1) ∷ w; first = λ b m. m; others = refl })
@@ -46,23 +44,8 @@ among_mid : (f : Frame) (u v : List Frame) → Among f (u ++ f ∷ v)
 among_mid f [] v = inl refl
 among_mid f (x ∷ u) v = inr (among_mid f u v)
 
-among_more : (f x : Frame) (u v : List Frame) → Among f (u ++ v) → Among f (u ++ x ∷ v)
-among_more f x [] v m = inr m
-among_more f x (y ∷ u) v (inl e) = inl e
-among_more f x (y ∷ u) v (inr m) = inr (among_more f x u v m)
-
 waited : (w w' : List Frame) (a : ℕ) (b : List ℕ) → OldestOf w a b w' → Among (a, b) w
 waited w w' a b s = subst (Among (a, b)) (sym s.split) (among_mid (a, b) s.before s.after)
-
-still : (w w' : List Frame) (a : ℕ) (o : Option (List ℕ)) → Means w a o w' → (f : Frame) → Among f w' → Among f w
-still w w' a None (none, e) f m = subst (Among f) e m
-still w w' a (Some b) s f m = subst (Among f) (sym s.split) (among_more f (a, b) s.before s.after (subst (Among f) s.others m))
-
-pub after_take : (w w' : List Frame) (a : ℕ) (o : Option (List ℕ)) → (o, w') ≡ fifo_take w a → AfterTake w a o w'
-after_take w w' a o e = record {
-  waited = λ b h. waited w w' a b (subst (λ (p : Option (List ℕ)). Means w a p w') h (took w w' a o e));
-  still = still w w' a o (took w w' a o e);
-}
 
 none_waits : (w w' : List Frame) (a : ℕ) (o : Option (List ℕ)) → NoneFor a w → Means w a o w' → o ≡ None
 none_waits w w' a None none s = refl
@@ -70,28 +53,20 @@ none_waits w w' a (Some b) none s = absurd (none b (waited w w' a b s))
 
 -- what a put leaves
 module _ (w w' : List Frame) (a : ℕ) (b : List ℕ) (e : w' ≡ fifo_put w a b) where
-  lost : (nat_lt 128 (length b) || nat_le 64 (length w)) ≡ true → w' ≡ w
+  lost : (ltb 128 (length b) || leb 64 (length w)) ≡ true → w' ≡ w
   lost t = e ∙ rw t refl
 
-  kept : (nat_lt 128 (length b) || nat_le 64 (length w)) ≡ false → w' ≡ w ++ (a, b) ∷ []
+  kept : (ltb 128 (length b) || leb 64 (length w)) ≡ false → w' ≡ w ++ (a, b) ∷ []
   kept n = e ∙ rw n refl
 
   appended : length b ≤ 128 → length w < 64 → w' ≡ w ++ (a, b) ∷ []
-  appended l m = kept (or_from (nat_lt 128 (length b)) (nat_le 64 (length w)) (le-ltb 128 (length b) l) (lt-leb 64 (length w) m))
+  appended l m = kept (or_from (ltb 128 (length b)) (leb 64 (length w)) (le-ltb 128 (length b) l) (lt-leb 64 (length w) m))
 
   full : 64 ≤ length w → w' ≡ w
-  full l = lost (or_right (nat_lt 128 (length b)) (nat_le 64 (length w)) (le-leb 64 (length w) l))
+  full l = lost (or_right (ltb 128 (length b)) (leb 64 (length w)) (le-leb 64 (length w) l))
 
   too_long : 128 < length b → w' ≡ w
-  too_long l = lost (or_left (nat_lt 128 (length b)) (nat_le 64 (length w)) (lt-ltb 128 (length b) l))
-
-  pub after_put : AfterPut w a b w'
-  after_put = go (cases_lt (length b) 129) (cases_lt (length w) 64)
-    where
-      go : (length b < 129) ⊎ (129 ≤ length b) → (length w < 64) ⊎ (64 ≤ length w) → AfterPut w a b w'
-      go (inr l) h = put_lost w w' a b (too_long (omega arith))
-      go (inl l) (inr h) = put_lost w w' a b (full h)
-      go (inl l) (inl h) = put_kept w w' a b (omega arith) (λ f m. among_push f (a, b) w (subst (Among f) (appended (omega arith) h) m))
+  too_long l = lost (or_left (ltb 128 (length b)) (leb 64 (length w)) (lt-ltb 128 (length b) l))
 
 pub fifo_laws : FifoLaws
 fifo_laws = record {
