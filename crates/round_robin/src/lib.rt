@@ -5,8 +5,7 @@ ghost use Rattle.std.specs.Prelude.{◌≡◌, ◌<◌, map, IfOk};
 ghost use Rattle.link.specs.Packets.{frame_of};
 ghost use Rattle.round_robin.specs.Places.{new_places, is_to, round};
 ghost use Rattle.round_robin.specs.Means.{places_of, round_waiting, RoundPuts, RoundTakes};
-ghost use Rattle.round_robin.specs.Ages.{after_put, size_of};
-ghost use Rattle.round_robin.specs.Turns.{after_take};
+ghost use Rattle.round_robin.specs.IsLink.{after_put, after_take, size_of};
 
 pub mod laws;
 pub mod rotation;
@@ -61,7 +60,7 @@ impl Link for RoundRobin {
 
     ghost adds = { λ l l' a b p. after_put (places_of l) (places_of l') a b p };
 
-    ghost hands = { λ l l' a o t. after_take (places_of l) (size_of l) l.within.1 (places_of l') a o t };
+    ghost hands = { λ l l' a o t. after_take (places_of l) (size_of l) (places_of l') a o t };
 
     fn put(&mut self, to: u32, frame: &[u8]) {
         let Some(packet) = Packet::new(to, frame) else {

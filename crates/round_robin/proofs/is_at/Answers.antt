@@ -1,5 +1,5 @@
 use Rattle.std.proofs.Common.{◌∙◌, arith}
-use Rattle.round_robin.specs.Rounds.{is_in, is_out}
+use Rattle.round_robin.proofs.Rounds.{is_in, is_out}
 use Rattle.round_robin.proofs.is_at.Goals as goal
 
 pub returns-then-place-frames : goal.returns-then-place-frames

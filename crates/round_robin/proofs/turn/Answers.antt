@@ -1,6 +1,6 @@
 use Rattle.std.proofs.Common.{map, sym, ◌∙◌, arith}
 use Rattle.link.specs.Packets.{frame_of}
-use Rattle.round_robin.specs.Rounds.{loop_stop, loop_go, loop_end}
+use Rattle.round_robin.proofs.Rounds.{loop_stop, loop_go, loop_end}
 use Rattle.round_robin.proofs.turn.Goals as goal
 
 pub returns-then-is_at : goal.returns-then-is_at

@@ -1,5 +1,5 @@
 use Rattle.std.proofs.Common.{vec_items, arith}
-use Rattle.round_robin.specs.Rounds.{put_room, put_over}
+use Rattle.round_robin.proofs.Rounds.{put_room, put_over}
 use Rattle.round_robin.proofs.RoundRobinLink.put.Goals as goal
 
 pub returns-then-len-lt16 : goal.returns-then-len-lt16

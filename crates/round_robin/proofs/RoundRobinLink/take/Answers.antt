@@ -3,7 +3,7 @@ use Rattle.link.specs.declared.packet.Packet.{Packet}
 use Rattle.link.specs.Packets.{frame_of}
 use Rattle.link.proofs.Frames.{whole, fits}
 use Rattle.round_robin.specs.Places.{round}
-use Rattle.round_robin.specs.Rounds.{took_none, took_some}
+use Rattle.round_robin.proofs.Rounds.{took_none, took_some}
 use Rattle.round_robin.proofs.RoundRobinLink.take.Goals as goal
 
 -- the place that was found among the packets of the vector

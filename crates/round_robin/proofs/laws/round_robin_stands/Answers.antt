@@ -1,4 +1,4 @@
-use Rattle.round_robin.specs.Ages.{round_robin_laws}
+use Rattle.round_robin.proofs.Ages.{round_robin_laws}
 use Rattle.round_robin.proofs.laws.round_robin_stands.Goals as goal
 
 pub returns : goal.returns

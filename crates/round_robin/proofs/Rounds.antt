@@ -1,7 +1,5 @@
 -- A round over the places, and what a put and a take do to the packets.
-use Rattle.std.specs.Prelude.{◌≡◌, ℕ, zero, suc, ◌+◌, ◌-◌, ◌%◌, ◌<◌, ◌≤◌, true, false, ltb, List, [], ◌∷◌, ◌++◌, map, length, set, Some, None, Option, ◌==◌, nat_lt, slice_index_or, slice_set}
-use Rattle.std.proofs.Math.Path.{refl}
-use Rattle.std.proofs.Common.{sym, ap, ◌∙◌, arith}
+use Rattle.std.proofs.Common.{◌≡◌, ℕ, zero, suc, ◌+◌, ◌-◌, ◌%◌, ◌<◌, ◌≤◌, true, false, ltb, List, [], ◌∷◌, ◌++◌, map, length, set, Some, None, Option, refl, eqb, get_or, sym, ap, ◌∙◌, arith}
 use Rattle.std.proofs.lemmas.List.{length-map, map_push, map-set, get_or-map}
 use Rattle.std.proofs.lemmas.Bool.{lt-ltb, le-ltb, and_left}
 use Rattle.link.specs.declared.packet.Packet.{Packet}
@@ -9,16 +7,16 @@ use Rattle.link.specs.Frames.{Frame}
 use Rattle.link.specs.Packets.{frame_of}
 use Rattle.round_robin.specs.Places.{Places, no_frame, at, round_put, is_to, round, round_take}
 
-pub is_in : (xs : List Packet) (p a : ℕ) (x : Packet) → p < length xs → x ≡ slice_index_or xs p x → ((frame_of x).0 == a) ≡ is_to (map frame_of xs) a p
+pub is_in : (xs : List Packet) (p a : ℕ) (x : Packet) → p < length xs → x ≡ get_or xs p x → eqb (frame_of x).0 a ≡ is_to (map frame_of xs) a p
 is_in xs p a x l is =
     let t : ltb p (length (map frame_of xs)) ≡ true = lt-ltb p (length (map frame_of xs)) (omega (arith, length-map xs frame_of)) in
     let e : (at (map frame_of xs) p).0 ≡ (frame_of x).0 = ap (λ f. f.0) (get_or-map frame_of xs p x no_frame l ∙ ap frame_of (sym is)) in
     rw (t, e) refl
 
-pub is_out : (xs : List Packet) (p a : ℕ) → length xs ≤ p → nat_lt p (length xs) ≡ is_to (map frame_of xs) a p
+pub is_out : (xs : List Packet) (p a : ℕ) → length xs ≤ p → ltb p (length xs) ≡ is_to (map frame_of xs) a p
 is_out xs p a l =
     le-ltb p (length xs) l
-    ∙ sym (and_left (nat_lt p (length (map frame_of xs))) ((at (map frame_of xs) p).0 == a) (le-ltb p (length (map frame_of xs)) (omega (arith, length-map xs frame_of))))
+    ∙ sym (and_left (ltb p (length (map frame_of xs))) (eqb (at (map frame_of xs) p).0 a) (le-ltb p (length (map frame_of xs)) (omega (arith, length-map xs frame_of))))
 
 module _ (w : List Frame) (a : ℕ) where
   pub round_stop : (n p : ℕ) → is_to w a p ≡ true → round w a (suc n) p ≡ p
@@ -55,11 +53,11 @@ module _ (xs : List Packet) (x : Packet) (a : ℕ) (b : List ℕ) (o n : ℕ) (n
       let e : map frame_of xs' ≡ map frame_of xs ++ (a, b) ∷ [] = ap (map frame_of) h ∙ map_push frame_of xs x ∙ ap (λ y. map frame_of xs ++ y ∷ []) new.1 in
       rw (s, t) (λ i. record { frames = e i; oldest = o; next = n })
 
-  pub put_over : 16 ≤ length xs → places (slice_set xs o x) ((o + 1) % 16) n ≡ round_put (places xs o n) a b
+  pub put_over : 16 ≤ length xs → places (set xs o x) ((o + 1) % 16) n ≡ round_put (places xs o n) a b
   put_over m =
       let s : ltb 128 (length b) ≡ false = le-ltb 128 (length b) new.0 in
       let t : ltb (length (map frame_of xs)) 16 ≡ false = le-ltb (length (map frame_of xs)) 16 (omega (arith, length-map xs frame_of)) in
-      let e : map frame_of (slice_set xs o x) ≡ set (map frame_of xs) o (a, b) = map-set frame_of xs o x ∙ ap (λ y. set (map frame_of xs) o y) new.1 in
+      let e : map frame_of (set xs o x) ≡ set (map frame_of xs) o (a, b) = map-set frame_of xs o x ∙ ap (λ y. set (map frame_of xs) o y) new.1 in
       rw (s, t) (λ i. record { frames = e i; oldest = (o + 1) % 16; next = n })
 
 -- an answer and the places after it
@@ -73,7 +71,7 @@ module _ (xs : List Packet) (a o n p : ℕ) (here : p ≡ round (map frame_of xs
       let t : ltb p (length (map frame_of xs)) ≡ false = le-ltb p (length (map frame_of xs)) (omega (arith, length-map xs frame_of)) in
       rw (sym here, t) refl
 
-  pub took_some : (x : Packet) (b : List ℕ) → p < length xs → x ≡ slice_index_or xs p x → b ≡ (frame_of x).1 → ◌≡◌ {A = Outcome} (Some b, places xs o ((p + 1) % 16)) (round_take (places xs o n) a)
+  pub took_some : (x : Packet) (b : List ℕ) → p < length xs → x ≡ get_or xs p x → b ≡ (frame_of x).1 → ◌≡◌ {A = Outcome} (Some b, places xs o ((p + 1) % 16)) (round_take (places xs o n) a)
   took_some x b l is h =
       let t : ltb p (length (map frame_of xs)) ≡ true = lt-ltb p (length (map frame_of xs)) (omega (arith, length-map xs frame_of)) in
       let e : b ≡ (at (map frame_of xs) p).1 = h ∙ ap (λ y. (frame_of y).1) is ∙ ap (λ y. y.1) (sym (get_or-map frame_of xs p x no_frame l)) in

@@ -1,11 +1,11 @@
 -- Which frame a take hands out, and what stays.
-use Rattle.std.specs.Prelude.{◌≡◌, ℕ, zero, suc, ◌+◌, ◌-◌, ◌%◌, ◌<◌, ◌≤◌, true, false, ltb, ◌⊎◌, List, [], ◌∷◌, length, Some, None, Option, ◌==◌, ◌≢◌, nat_lt, refl}
-use Rattle.std.proofs.Common.{sym, ap, ◌∙◌, subst, inl, inr, arith}
+use Rattle.std.proofs.Common.{◌≡◌, ℕ, zero, suc, ◌+◌, ◌-◌, ◌%◌, ◌<◌, ◌≤◌, true, false, ltb, ◌⊎◌, List, [], ◌∷◌, length, Some, None, Option, eqb, ◌≢◌, refl, sym, ap, ◌∙◌, subst, inl, inr, arith}
 use Rattle.std.proofs.lemmas.Bool.{both_ways, cases_Bool, eqb-true, eq-eqb, ltb-true, lt-ltb, le-ltb, and_parts, and_from}
-use Rattle.link.specs.Frames.{Frame, Among, NoneFor, AfterTake}
+use Rattle.link.specs.Frames.{Frame, Among, NoneFor}
+use Rattle.round_robin.specs.IsLink.{among_at}
 use Rattle.round_robin.specs.Places.{Places, at, is_to, round, moved, handed, round_take}
 use Rattle.round_robin.specs.Laws.{Turn}
-use Rattle.round_robin.specs.Rounds.{round_stop, round_go, round_end}
+use Rattle.round_robin.proofs.Rounds.{round_stop, round_go, round_end}
 
 -- the round over n places from p on comes to q as the first for the address
 record Stops (w : List Frame) (a n p q : ℕ) : Type 0 where
@@ -39,15 +39,10 @@ rounds w a (suc n) p l = go (rounds w a n ((p + 1) % 16) (omega arith)) (cases_B
     go (inr (e, past)) (inr f) = inr (round_go w a n p f ∙ e, λ d h. past_more w a p n l f past d (omega arith))
 
 is_taken : (w : List Frame) (a p : ℕ) → is_to w a p ≡ true → (p < length w) × ((at w p).0 ≡ a)
-is_taken w a p t = let q = and_parts (nat_lt p (length w)) ((at w p).0 == a) t in (ltb-true p (length w) q.0, eqb-true (at w p).0 a q.1)
+is_taken w a p t = let q = and_parts (ltb p (length w)) (eqb (at w p).0 a) t in (ltb-true p (length w) q.0, eqb-true (at w p).0 a q.1)
 
 is_not : (w : List Frame) (a p : ℕ) → is_to w a p ≡ false → p < length w → (at w p).0 ≢ a
-is_not w a p f l e = both_ways (is_to w a p) f (and_from (nat_lt p (length w)) ((at w p).0 == a) (lt-ltb p (length w) l) (eq-eqb (at w p).0 a e))
-
-among_at : (w : List Frame) (p : ℕ) → p < length w → Among (at w p) w
-among_at [] p l = absurd (omega arith)
-among_at (x ∷ w) zero l = inl refl
-among_at (x ∷ w) (suc p) l = inr (among_at w p (omega arith))
+is_not w a p f l e = both_ways (is_to w a p) f (and_from (ltb p (length w)) (eqb (at w p).0 a) (lt-ltb p (length w) l) (eq-eqb (at w p).0 a e))
 
 place_of : (w : List Frame) (f : Frame) → Among f w → (p : ℕ) × (p < length w) × (at w p ≡ f)
 place_of [] f m = absurd m
@@ -98,9 +93,6 @@ module _ (m : Places) (size : length m.frames ≤ 16) (begin : m.next < 16) wher
   module _ (m' : Places) (a : ℕ) (o : Option (List ℕ)) (e : (o, m') ≡ round_take m a) where
     pub took : Means m a o m'
     took = subst (λ (r : Option (List ℕ) × Places). Means m a r.0 r.1) (sym e) (means a)
-
-    pub after_take : AfterTake m.frames a o m'.frames
-    after_take = record { waited = λ b h. waited m m' a b (subst (λ (p : Option (List ℕ)). Means m a p m') h took); still = λ f n. subst (Among f) (same_frames m m' a o took).0 n }
 
     pub none_waits : NoneFor a m.frames → o ≡ None
     none_waits none = go o took

@@ -1,58 +1,37 @@
 -- What a put does to the places, and which frames they hold after any calls.
-use Rattle.std.specs.Prelude.{◌≡◌, ℕ, zero, suc, ◌+◌, ◌-◌, ◌%◌, ◌<◌, ◌≤◌, true, false, ◌≢◌, ◌⊎◌, List, [], ◌∷◌, ◌++◌, length, Some, None, vec_items, nat_le, nat_lt, slice_set, refl}
-use Rattle.std.proofs.Common.{sym, ap, ◌∙◌, subst, append_assoc, append-nil, inl, inr, arith}
-use Rattle.std.proofs.lemmas.List.{length-map, length_push, length-set, get_or_append_left, get_or_push, get_or-set_same, get_or-set_other}
+use Rattle.std.proofs.Common.{◌≡◌, ℕ, ◌+◌, ◌%◌, ◌<◌, ◌≤◌, true, false, ◌≢◌, ◌⊎◌, List, [], ◌∷◌, ◌++◌, length, Some, None, leb, ltb, set, refl, sym, ap, ◌∙◌, subst, append_assoc, append-nil, inl, inr, arith}
+use Rattle.std.proofs.lemmas.List.{length_push, length-set, get_or_append_left, get_or_push, get_or-set_same, get_or-set_other}
 use Rattle.std.proofs.lemmas.Bool.{cases_lt, lt-ltb, le-ltb, le-leb, lt-leb}
-use Rattle.link.specs.Frames.{Frame, Among, AfterPut}
+use Rattle.link.specs.Frames.{Frame}
 use Rattle.link.specs.Laws.{Call, Put, Take, frames_put, Run}
-use Rattle.link.specs.Packets.{frame_of}
-use Rattle.link.proofs.Frames.{among_push, put_lost, put_kept}
 use Rattle.round_robin.specs.declared.rotation.RoundRobin.{RoundRobin}
 use Rattle.round_robin.specs.Places.{Places, new_places, no_frame, at, round_put}
 use Rattle.round_robin.specs.Means.{places_of, round_waiting, RoundPuts, RoundTakes}
+use Rattle.round_robin.specs.IsLink.{size_of}
 use Rattle.round_robin.specs.Laws.{LastOf, RoundRobinLaws}
-use Rattle.round_robin.specs.Turns.{took, same_frames, none_waits}
+use Rattle.round_robin.proofs.Turns.{took, same_frames, none_waits}
 
 -- the three ways of a put
 data Puts (m : Places) (a : ℕ) (b : List ℕ) (m' : Places) : Type 0 where
   lost : 128 < length b → m' ≡ m → Puts m a b m'
   added : length b ≤ 128 → length m.frames < 16 → m'.frames ≡ m.frames ++ (a, b) ∷ [] → m'.oldest ≡ m.oldest → m'.next ≡ m.next → Puts m a b m'
-  replaced : length b ≤ 128 → 16 ≤ length m.frames → m'.frames ≡ slice_set m.frames m.oldest (a, b) → m'.oldest ≡ (m.oldest + 1) % 16 → m'.next ≡ m.next → Puts m a b m'
+  replaced : length b ≤ 128 → 16 ≤ length m.frames → m'.frames ≡ set m.frames m.oldest (a, b) → m'.oldest ≡ (m.oldest + 1) % 16 → m'.next ≡ m.next → Puts m a b m'
 
 puts : (m m' : Places) (a : ℕ) (b : List ℕ) → m' ≡ round_put m a b → Puts m a b m'
 puts m m' a b e = go (cases_lt 128 (length b)) (cases_lt (length m.frames) 16)
   where
     go : (128 < length b) ⊎ (length b ≤ 128) → (length m.frames < 16) ⊎ (16 ≤ length m.frames) → Puts m a b m'
-    go (inl l) h = let t : nat_lt 128 (length b) ≡ true = lt-ltb 128 (length b) l in lost l (rw t at e)
+    go (inl l) h = let t : ltb 128 (length b) ≡ true = lt-ltb 128 (length b) l in lost l (rw t at e)
     go (inr l) (inl h) =
-        let t : nat_lt 128 (length b) ≡ false = le-ltb 128 (length b) l in
-        let u : nat_lt (length m.frames) 16 ≡ true = lt-ltb (length m.frames) 16 h in
+        let t : ltb 128 (length b) ≡ false = le-ltb 128 (length b) l in
+        let u : ltb (length m.frames) 16 ≡ true = lt-ltb (length m.frames) 16 h in
         let q : m' ≡ record { frames = m.frames ++ (a, b) ∷ []; oldest = m.oldest; next = m.next } = rw (t, u) at e in
         added l h (ap (λ x. x.frames) q) (ap (λ x. x.oldest) q) (ap (λ x. x.next) q)
     go (inr l) (inr h) =
-        let t : nat_lt 128 (length b) ≡ false = le-ltb 128 (length b) l in
-        let u : nat_lt (length m.frames) 16 ≡ false = le-ltb (length m.frames) 16 h in
-        let q : m' ≡ record { frames = slice_set m.frames m.oldest (a, b); oldest = (m.oldest + 1) % 16; next = m.next } = rw (t, u) at e in
+        let t : ltb 128 (length b) ≡ false = le-ltb 128 (length b) l in
+        let u : ltb (length m.frames) 16 ≡ false = le-ltb (length m.frames) 16 h in
+        let q : m' ≡ record { frames = set m.frames m.oldest (a, b); oldest = (m.oldest + 1) % 16; next = m.next } = rw (t, u) at e in
         replaced l h (ap (λ x. x.frames) q) (ap (λ x. x.oldest) q) (ap (λ x. x.next) q)
-
-among_set : (f x : Frame) (w : List Frame) (i : ℕ) → Among f (slice_set w i x) → Among f w ⊎ (f ≡ x)
-among_set f x [] i m = absurd m
-among_set f x (y ∷ w) zero (inl e) = inr e
-among_set f x (y ∷ w) zero (inr m) = inl (inr m)
-among_set f x (y ∷ w) (suc i) (inl e) = inl (inl e)
-among_set f x (y ∷ w) (suc i) (inr m) = go (among_set f x w i m)
-  where
-    go : Among f w ⊎ (f ≡ x) → Among f (y ∷ w) ⊎ (f ≡ x)
-    go (inl n) = inl (inr n)
-    go (inr e) = inr e
-
-pub after_put : (m m' : Places) (a : ℕ) (b : List ℕ) → m' ≡ round_put m a b → AfterPut m.frames a b m'.frames
-after_put m m' a b e = go (puts m m' a b e)
-  where
-    go : Puts m a b m' → AfterPut m.frames a b m'.frames
-    go (lost l h) = put_lost m.frames m'.frames a b (ap (λ x. x.frames) h)
-    go (added l h s o n) = put_kept m.frames m'.frames a b l (λ f k. among_push f (a, b) m.frames (subst (Among f) s k))
-    go (replaced l h s o n) = put_kept m.frames m'.frames a b l (λ f k. among_set f (a, b) m.frames m.oldest (subst (Among f) s k))
 
 unmoved : (m m' : Places) (a : ℕ) (b : List ℕ) → Puts m a b m' → m'.next ≡ m.next
 unmoved m m' a b (lost l h) = ap (λ x. x.next) h
@@ -82,41 +61,38 @@ module _ (h : List Frame) (m m' : Places) (a : ℕ) (b : List ℕ) (held : LastO
           ∙ sym (get_or_append_left h ((a, b) ∷ []) no_frame k n)
       go k l (inr n) = get_or_push m.frames (a, b) no_frame (k % 16) (omega (arith, held.count)) ∙ sym (get_or_push h (a, b) no_frame k (omega arith))
 
-  replaced_last : 16 ≤ length m.frames → m'.frames ≡ slice_set m.frames m.oldest (a, b) → m'.oldest ≡ (m.oldest + 1) % 16 → LastOf (h ++ (a, b) ∷ []) m'
+  replaced_last : 16 ≤ length m.frames → m'.frames ≡ set m.frames m.oldest (a, b) → m'.oldest ≡ (m.oldest + 1) % 16 → LastOf (h ++ (a, b) ∷ []) m'
   replaced_last full s o = record {
     count = ap length s ∙ length-set m.frames m.oldest (a, b) ∙ omega (arith, held.count, grown);
     kept = λ k l r. ap (λ w. at w (k % 16)) s ∙ go k (omega (arith, grown)) (omega (arith, grown)) (cases_lt k (length h));
     oldest = o ∙ omega (arith, held.oldest, held.count, grown);
   }
     where
-      go : (k : ℕ) → k < length h + 1 → length h + 1 ≤ k + 16 → (k < length h) ⊎ (length h ≤ k) → at (slice_set m.frames m.oldest (a, b)) (k % 16) ≡ at (h ++ (a, b) ∷ []) k
+      go : (k : ℕ) → k < length h + 1 → length h + 1 ≤ k + 16 → (k < length h) ⊎ (length h ≤ k) → at (set m.frames m.oldest (a, b)) (k % 16) ≡ at (h ++ (a, b) ∷ []) k
       go k l r (inl n) =
           let ne : k % 16 ≢ m.oldest = λ e. absurd (omega (arith, held.oldest, held.count)) in
           get_or-set_other m.frames m.oldest (k % 16) (a, b) no_frame ne ∙ held.kept k n (omega arith) ∙ sym (get_or_append_left h ((a, b) ∷ []) no_frame k n)
       go k l r (inr n) =
           let e : k % 16 ≡ m.oldest = omega (arith, held.oldest, held.count) in
-          ap (at (slice_set m.frames m.oldest (a, b))) e ∙ get_or-set_same m.frames m.oldest (a, b) no_frame (omega (arith, held.oldest)) ∙ sym (get_or_push h (a, b) no_frame k (omega arith))
+          ap (at (set m.frames m.oldest (a, b))) e ∙ get_or-set_same m.frames m.oldest (a, b) no_frame (omega (arith, held.oldest)) ∙ sym (get_or_push h (a, b) no_frame k (omega arith))
 
 -- the frames that the calls put, with those put before
 last_put : (h : List Frame) (m m' : Places) (a : ℕ) (b : List ℕ) → LastOf h m → Puts m a b m' → LastOf (h ++ frames_put (Put a b ∷ [])) m'
 last_put h m m' a b held (lost l e) =
-    let t : nat_le (length b) 128 ≡ false = lt-leb (length b) 128 l in
+    let t : leb (length b) 128 ≡ false = lt-leb (length b) 128 l in
     rw (t, append-nil h) (subst (LastOf h) (sym e) held)
-last_put h m m' a b held (added l r s o n) = let t : nat_le (length b) 128 ≡ true = le-leb (length b) 128 l in rw t (added_last h m m' a b held r s o)
-last_put h m m' a b held (replaced l f s o n) = let t : nat_le (length b) 128 ≡ true = le-leb (length b) 128 l in rw t (replaced_last h m m' a b held f s o)
+last_put h m m' a b held (added l r s o n) = let t : leb (length b) 128 ≡ true = le-leb (length b) 128 l in rw t (added_last h m m' a b held r s o)
+last_put h m m' a b held (replaced l f s o n) = let t : leb (length b) 128 ≡ true = le-leb (length b) 128 l in rw t (replaced_last h m m' a b held f s o)
 
 put_before : (a : ℕ) (b : List ℕ) (cs : List Call) → frames_put (Put a b ∷ cs) ≡ frames_put (Put a b ∷ []) ++ frames_put cs
 put_before a b cs = go (cases_lt 128 (length b))
   where
     go : (128 < length b) ⊎ (length b ≤ 128) → frames_put (Put a b ∷ cs) ≡ frames_put (Put a b ∷ []) ++ frames_put cs
-    go (inl l) = let t : nat_le (length b) 128 ≡ false = lt-leb (length b) 128 l in rw t refl
-    go (inr l) = let t : nat_le (length b) 128 ≡ true = le-leb (length b) 128 l in rw t refl
+    go (inl l) = let t : leb (length b) 128 ≡ false = lt-leb (length b) 128 l in rw t refl
+    go (inr l) = let t : leb (length b) 128 ≡ true = le-leb (length b) 128 l in rw t refl
 
 same_last : (h : List Frame) (m m' : Places) → LastOf h m → (m'.frames ≡ m.frames) × (m'.oldest ≡ m.oldest) → LastOf h m'
 same_last h m m' held (s, o) = record { count = ap length s ∙ held.count; kept = λ k l r. ap (λ w. at w (k % 16)) s ∙ held.kept k l r; oldest = o ∙ held.oldest }
-
-pub size_of : (l : RoundRobin) → length (round_waiting l) ≤ 16
-size_of l = omega (arith, length-map (vec_items l.frames) frame_of, l.frames.ok.0, l.size)
 
 last : (h : List Frame) (l l' : RoundRobin) (cs : List Call) → LastOf h (places_of l) → Run round_waiting RoundPuts RoundTakes l cs l' → LastOf (h ++ frames_put cs) (places_of l')
 last h l l' [] held e = rw (append-nil h) (subst (λ (x : RoundRobin). LastOf h (places_of x)) e held)

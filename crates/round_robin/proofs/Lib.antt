@@ -1,0 +1,3 @@
+mod Ages
+mod Rounds
+mod Turns
