@@ -1,11 +1,11 @@
 -- What the filter's rule means.
-use Rattle.std.proofs.Common.{◌≡◌, ℕ, ◌-◌, true, false, ◌⊎◌, List, [], ◌∷◌, ◌++◌, take, Some, None, Ok, vec_items, Option, sym, refl, ap, ◌∙◌, subst, inl, inr, append_assoc, append-nil, arith}
+use Rattle.std.proofs.Common.{◌≡◌, ℕ, ◌-◌, true, false, ◌⊎◌, List, [], ◌∷◌, ◌++◌, take, Some, None, Ok, vec_items, Option, sym, ap, ◌∙◌, subst, inl, inr, append_assoc, append-nil, arith}
 use native.Mathlib.Nat.{sub-zero}
 use Rattle.std.proofs.lemmas.List.{length-map}
 use Rattle.std.proofs.lemmas.Bool.{both_ways, cases_Bool}
 use Rattle.link.specs.declared.Link as link
 use Rattle.link.specs.declared.packet.Packet.{Packet}
-use Rattle.link.specs.Frames.{Frame, Among, AfterTake, Taken}
+use Rattle.link.specs.Frames.{Frame, Among, Taken}
 use Rattle.link.specs.Laws.{Call, Put, Take, frames_taken, Run}
 use Rattle.link.specs.Packets.{frame_of, Packed}
 use Rattle.duplicate_filter.specs.declared.filter.DuplicateFilter.{DuplicateFilter}
@@ -71,13 +71,6 @@ module _ {L : Type 0} (K : link.Ghosts L) where
       go : Ways (recent_of l) a d None (recent_of l') → Swallowed K l a l'
       go (old m h r) = record { inner = inr (d, m, t); stay = r }
       go (fresh n h r) = let z : ◌≡◌ {A = ℕ} 0 1 = cc in absurd (omega arith)
-
-  pub after_take : ((j j' : L) (a : ℕ) (o : Option (List ℕ)) → K.takes j a o j' → AfterTake (K.waiting j) a o (K.waiting j'))
-      → (l l' : DuplicateFilter L) (a : ℕ) (o : Option (List ℕ)) → FilterTakes K l a o l' → AfterTake (filter_waiting K l) a o (filter_waiting K l')
-  after_take hands l l' a o t = record {
-    waited = λ b e. (hands l.inner l'.inner a (Some b) (passed l l' a b (subst (λ (p : Option (List ℕ)). FilterTakes K l a p l') e t)).inner).waited b refl;
-    still = (hands l.inner l'.inner a t.0 t.1).still;
-  }
 
   -- the last eight of the frames h that were handed out, and of those that the calls hand out after them
   last : (h : List Frame) (l l' : DuplicateFilter L) (cs : List Call) → recent_of l ≡ last_eight h → Run (filter_waiting K) (FilterPuts K) (FilterTakes K) l cs l' → recent_of l' ≡ last_eight (h ++ frames_taken cs)

@@ -1,3 +1,4 @@
+pub mod IsLink
 pub mod Laws
 pub mod Means
 pub mod Repeats

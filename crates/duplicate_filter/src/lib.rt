@@ -5,6 +5,7 @@ ghost use Rattle.std.specs.Prelude.{◌≡◌, [], ◌∷◌, ◌++◌, map, IfO
 ghost use Rattle.link.specs.Packets.{frame_of};
 ghost use Rattle.duplicate_filter.specs.Repeats.{seen, last_eight};
 ghost use Rattle.duplicate_filter.specs.Means.{recent_of, filter_waiting, FilterPuts, FilterTakes};
+ghost use Rattle.duplicate_filter.specs.IsLink.{after_take};
 
 pub mod filter;
 pub mod laws;
@@ -60,6 +61,8 @@ impl<L: Link> Link for DuplicateFilter<L> {
     ghost takes = { FilterTakes L.Link };
 
     ghost adds = { λ l l' a b p. L.Link.adds l.inner l'.inner a b p.0 };
+
+    ghost hands = { λ l l' a o t. after_take (recent_of l) (recent_of l') a o t.0 (L.Link.hands l.inner l'.inner a t.0 t.1) t.2 };
 
     fn put(&mut self, to: u32, frame: &[u8]) {
         self.inner.put(to, frame);

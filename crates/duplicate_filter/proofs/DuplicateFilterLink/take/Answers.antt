@@ -12,7 +12,7 @@ returns g c =
     let x = c.unwrap-packet.result in
     let filled = c.fill.ensures in
     let unseen = ap (λ ys. seen (frame_of x) (map frame_of ys)) (sym c.deref.ensures.value) ∙ sym c.if-contains.ensures in
-    let took = inner_took g.L.Link s.inner c.take.new.self c.args.to c.in-Some.n (replicate 128 0) c.take.new.buf c.in-ok-n.field-0 c.in-Some.is c.in-ok-n.ensures in (
+    let took = inner_took g.L.Link s.inner c.take.new.self c.args.to c.in-Some.n (replicate 128 0) c.take.new.buf c.in_ok-n.field-0 c.in-Some.is c.in_ok-n.ensures in (
       omega arith,
       fits x _ _ c.fill.result (omega arith) filled,
       (
