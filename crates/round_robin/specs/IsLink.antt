@@ -1,4 +1,5 @@
--- That frames at 16 places obey the laws of a link. Only the impl of Link cites this; there is nothing in it that a reader has to believe.
+-- That frames at 16 places obey the laws of a link.
+-- Only the impl of Link cites this; there is nothing in it that a reader has to believe.
 use Rattle.std.specs.Prelude.{◌≡◌, ℕ, zero, suc, ◌+◌, ◌%◌, ◌<◌, ◌≤◌, true, false, ◌⊎◌, List, [], ◌∷◌, length, vec_items, Option, ◌==◌, nat_lt, slice_set, refl}
 use Rattle.std.proofs.Common.{sym, ap, subst, inl, inr, arith}
 use Rattle.std.proofs.lemmas.List.{length-map}
@@ -27,7 +28,8 @@ after_put m m' a b e = go (cases_lt 128 (length b)) (cases_Bool (nat_lt (length 
     same : m'.frames ≡ (round_put m a b).frames
     same = ap (λ (x : Places). x.frames) e
 
-    go : (128 < length b) ⊎ (length b ≤ 128) → (nat_lt (length m.frames) 16 ≡ true) ⊎ (nat_lt (length m.frames) 16 ≡ false) → AfterPut m.frames a b m'.frames
+    go : (128 < length b) ⊎ (length b ≤ 128) → (nat_lt (length m.frames) 16 ≡ true) ⊎ (nat_lt (length m.frames) 16 ≡ false)
+        → AfterPut m.frames a b m'.frames
     go (inl l) h = let t : nat_lt 128 (length b) ≡ true = lt-ltb 128 (length b) l in put_lost m.frames m'.frames a b (rw t at same)
     go (inr l) (inl h) =
         let t : nat_lt 128 (length b) ≡ false = le-ltb 128 (length b) l in
@@ -42,7 +44,8 @@ unfolding round
 comes w a zero p = inr refl
 comes w a (suc n) p = go (comes w a n ((p + 1) % 16)) (cases_Bool (is_to w a p))
   where
-    go : (is_to w a (round w a n ((p + 1) % 16)) ≡ true) ⊎ (round w a n ((p + 1) % 16) ≡ 16) → (is_to w a p ≡ true) ⊎ (is_to w a p ≡ false)
+    go : (is_to w a (round w a n ((p + 1) % 16)) ≡ true) ⊎ (round w a n ((p + 1) % 16) ≡ 16)
+        → (is_to w a p ≡ true) ⊎ (is_to w a p ≡ false)
         → (is_to w a (round w a (suc n) p) ≡ true) ⊎ (round w a (suc n) p ≡ 16)
     go more (inl t) = inl (rw t t)
     go more (inr f) = rw f more
@@ -63,7 +66,8 @@ module _ (m : Places) (size : length m.frames ≤ 16) where
       here : (b : List ℕ) → p < length m.frames → (at m.frames p).0 ≡ a → (at m.frames p).1 ≡ b → Among (a, b) m.frames
       here b l e q = subst (λ (f : Frame). Among f m.frames) (λ i. (e i, q i)) (among_at m.frames p l)
 
-      go : (p < length m.frames) ⊎ (length m.frames ≤ p) → (is_to m.frames a p ≡ true) ⊎ (p ≡ 16) → AfterTake m.frames a (handed m p).0 (handed m p).1.frames
+      go : (p < length m.frames) ⊎ (length m.frames ≤ p) → (is_to m.frames a p ≡ true) ⊎ (p ≡ 16)
+          → AfterTake m.frames a (handed m p).0 (handed m p).1.frames
       go (inl l) (inl t) =
           let s : nat_lt p (length m.frames) ≡ true = lt-ltb p (length m.frames) l in
           let q = and_parts (nat_lt p (length m.frames)) ((at m.frames p).0 == a) t in
@@ -75,4 +79,5 @@ module _ (m : Places) (size : length m.frames ≤ 16) where
 
   pub after_take : (m' : Places) (a : ℕ) (o : Option (List ℕ)) → (o, m') ≡ round_take m a → AfterTake m.frames a o m'.frames
   after_take m' a o e =
-      subst (λ (r : Option (List ℕ) × Places). AfterTake m.frames a r.0 r.1.frames) (sym e) (after a (round m.frames a 16 m.next) (comes m.frames a 16 m.next))
+      let here = after a (round m.frames a 16 m.next) (comes m.frames a 16 m.next) in
+      subst (λ (r : Option (List ℕ) × Places). AfterTake m.frames a r.0 r.1.frames) (sym e) here
