@@ -1,5 +1,5 @@
 -- That a filter over a link obeys the laws of a link.
--- Only the impl of Link cites this; there is nothing in it that a reader has to believe.
+-- It stands here because the impl cites it; there is nothing in it that a reader has to believe.
 use Rattle.std.specs.Prelude.{◌≡◌, ℕ, true, false, ◌⊎◌, List, Some, None, Option}
 use Rattle.std.proofs.Common.{ap, subst, sym, inl, inr}
 use Rattle.std.proofs.lemmas.Bool.{cases_Bool}

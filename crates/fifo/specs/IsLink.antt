@@ -1,5 +1,5 @@
 -- That the queue obeys the laws of a link.
--- Only the impl of Link cites this; there is nothing in it that a reader has to believe.
+-- It stands here because the impl cites it; there is nothing in it that a reader has to believe.
 use Rattle.std.specs.Prelude.{◌≡◌, ℕ, ◌<◌, ◌≤◌, true, false, ◌⊎◌, List, [], ◌∷◌, length, Option, ◌==◌, nat_le, nat_lt}
 use Rattle.std.proofs.Common.{sym, subst, inl, inr}
 use Rattle.std.proofs.lemmas.Bool.{cases_Bool, cases_lt, eqb-true, lt-ltb, le-ltb}

@@ -1,5 +1,5 @@
 -- That a hashed table counts the keys that it holds.
--- Only the impl of Store cites this; there is nothing in it that a reader has to believe.
+-- It stands here because the impl cites it; there is nothing in it that a reader has to believe.
 use Rattle.std.specs.Prelude.{◌≡◌, ℕ, suc, true, false, cond, eqb, ◌⊎◌, List, [], ◌∷◌, length, is_some, refl}
 use Rattle.std.proofs.Common.{sym, ◌∙◌, inl, inr, arith}
 use Rattle.std.proofs.lemmas.Bool.{both_ways, cases_Bool, eqb-true, eq-eqb, ne_eqb}

@@ -1,5 +1,5 @@
 -- That frames at 16 places obey the laws of a link.
--- Only the impl of Link cites this; there is nothing in it that a reader has to believe.
+-- It stands here because the impl cites it; there is nothing in it that a reader has to believe.
 use Rattle.std.specs.Prelude.{◌≡◌, ℕ, zero, suc, ◌+◌, ◌%◌, ◌<◌, ◌≤◌, true, false, ◌⊎◌, List, [], ◌∷◌, length, vec_items, Option, ◌==◌, nat_lt, slice_set, refl}
 use Rattle.std.proofs.Common.{sym, ap, subst, inl, inr, arith}
 use Rattle.std.proofs.lemmas.List.{length-map}

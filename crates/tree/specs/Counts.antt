@@ -1,5 +1,5 @@
 -- That a search tree counts the keys that it holds: the descent for a key has one end, so no two nodes have one key.
--- Only the impl of Store cites this; there is nothing in it that a reader has to believe.
+-- It stands here because the impl cites it; there is nothing in it that a reader has to believe.
 use Rattle.std.specs.Prelude.{◌≡◌, ℕ, zero, suc, ◌<◌, true, false, cond, eqb, ltb, ◌≢◌, ◌⊎◌, List, [], ◌∷◌, length, is_some, Some, None, Option, refl}
 use Rattle.std.proofs.Common.{sym, ap, ◌∙◌, subst, inl, inr, arith}
 use Rattle.std.proofs.Math.Logic.{∥∥₁_elim}

@@ -26,7 +26,8 @@ fn change(nodes: &mut [Node; 64], p: usize, row: Row)
 
 // The node at p leads to a new one at n.
 fn grow(nodes: &mut [Node; 64], p: usize, n: usize, key: u32, row: Row)
-    requires { (p < 64) × (n < 64) }
+    requires there { p < 64 }
+    requires new { n < 64 }
     ensures { nodes.new ≡ grown nodes.old p n key row }
 {
     nodes[p] = nodes[p].linked(key, n);

@@ -1,5 +1,5 @@
 -- That the orders of the values are total, and that what their types' comparisons answer is told by them.
--- Only the impls of TotalOrder cite this; there is nothing in it that a reader has to believe.
+-- It stands here because the impls of TotalOrder cite it; there is nothing in it that a reader has to believe.
 use Rattle.std.proofs.Common.{◌≡◌, ◌<◌, Ordering, Less, Equal, Greater, refl, arith}
 use Rattle.std.specs.Cmp.{ranks}
 use Rattle.std.specs.Ordering.{MatchOrdering, nat_cmp, ordering_then}
