@@ -3,7 +3,7 @@
 
 Types and facts are in upper camel case, everything else is in snake case. The names that Rattle
 makes for its goals stay. Run once, at the top of the repository, after the kit's port.py; a second
-run finds nothing to do. It stops where two names would fall together in one file.
+run finds nothing to do. It stops where a new name stands in a file of antt already.
 """
 import glob
 import re
