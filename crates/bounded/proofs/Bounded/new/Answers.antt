@@ -1,4 +1,4 @@
-use Rattle.std.proofs.Common.{rules, ◌≡◌, List, ◌++◌, length, drop, replicate, ap, ◌∙◌}
+use Rattle.std.proofs.Common.{arith, ◌≡◌, ◌++◌, length, drop, replicate, ap, ◌∙◌}
 use Rattle.bounded.specs.Filled.{filled}
 use Rattle.bounded.proofs.Filled.{filled_front, still_filled}
 use Rattle.bounded.proofs.Bounded.new.Goals as goal
@@ -10,4 +10,4 @@ invariant_of-result g c =
     let full : places ≡ filled g.row.N g.T.Blank.blank xs =
     filled_front g.row.N c.blank-places.result xs c.copy_from_slice.new.self c.copy_from_slice.ensures.after ∙ ap (λ (b : g.row.T.Denot). filled g.row.N b xs) c.blank-places.ensures
     in
-    (c.if-items.false, still_filled g.row.N g.T.Blank.blank xs places full)
+    (omega arith, still_filled g.row.N g.T.Blank.blank xs places full)
