@@ -1,3 +1,3 @@
 pub mod Apart
-pub mod Fill
 pub mod Whole
+pub mod Restoring

@@ -1,21 +1,12 @@
-use Rattle.std.proofs.Common.{◌≡◌, ◌≤◌, true, List, length, get_or, take, Some, None, Option, sym, ap, ◌∙◌}
+use Rattle.std.proofs.Common.{◌≡◌, true, get_or, Some, None, Option, sym, ap, ◌∙◌}
 use mathlib.Core.Bool.{Bool-set}
 use mathlib.Core.HLevel.{is_prop→PathP}
-use mathlib.Core.List.{is_set}
-use native.Mathlib.Bridge.{le_prop}
-use base.Stored.{Coded-set}
 use Rattle.std.proofs.lemmas.Bool.{and_parts, and_from, leb-true, le-leb, both_ways}
-use Rattle.values.specs.declared.timestamp.Timestamp.{Timestamp}
 use Rattle.values.specs.Times.{version}
-use Rattle.content.specs.contracts.rows.Read as read
-use Rattle.content.specs.contracts.rows.Write as write
-use Rattle.content.specs.declared.rows.Read.{Read}
-use Rattle.content.specs.declared.rows.Write.{Write}
 use Rattle.content.specs.declared.content.Content.{Content}
-use Rattle.content.specs.Rules.{Body, body_of, sound, SoundTested, read_keys, write_keys, no_read, no_write, filled}
+use Rattle.content.specs.Rules.{Body, sound, SoundTested, read_keys, write_keys, no_read}
 use Rattle.content.specs.Contents.{body, Made, ToldByBody}
 use Rattle.content.proofs.Apart.{differ_apart, apart_differ, before_each, each_before}
-use Rattle.content.proofs.Fill.{front_filled, count_filled}
 
 pub sound_tested : SoundTested
 sound_tested = record {
@@ -42,31 +33,14 @@ sound_tested = record {
       (before_each b.timestamp b.reads _ (λ i l. and_from _ _ (s.are_versions i l) (s.are_before i l))))));
 }
 
--- arrays that the rows were filled into say the rows
-pub same_body : (t : Timestamp) (rs places : List Read) (ws spaces : List Write) → places ≡ filled no_read rs → spaces ≡ filled no_write ws
-    → body_of t (take (length rs) places) (take (length ws) spaces) ≡ body_of t rs ws
-same_body t rs places ws spaces p q = λ i. body_of t (front_filled no_read rs places p i) (front_filled no_write ws spaces q i)
-
--- the places and the count are told by the rows, and the invariants have one proof at most
+-- the invariant has one proof at most
 pub told_by_body : ToldByBody
 told_by_body c d e =
-    let reads : c.reads ≡ d.reads = c.reads_blank ∙ ap (λ (b : Body). filled no_read b.reads) e ∙ sym d.reads_blank in
-    let writes : c.writes ≡ d.writes = c.writes_blank ∙ ap (λ (b : Body). filled no_write b.writes) e ∙ sym d.writes_blank in
-    let reads_counted : c.read_count ≡ d.read_count =
-    sym (count_filled no_read _ c.reads c.reads_fit c.reads_blank) ∙ ap (λ (b : Body). length b.reads) e ∙ count_filled no_read _ d.reads d.reads_fit d.reads_blank in
-    let writes_counted : c.write_count ≡ d.write_count =
-    sym (count_filled no_write _ c.writes c.writes_fit c.writes_blank) ∙ ap (λ (b : Body). length b.writes) e ∙ count_filled no_write _ d.writes d.writes_fit d.writes_blank in
     λ i. record {
       timestamp = (e i).timestamp;
-      reads = reads i;
-      read_count = reads_counted i;
-      writes = writes i;
-      write_count = writes_counted i;
-      ok = is_prop→PathP (λ j. sound (body_of (e j).timestamp (take (reads_counted j) (reads j)) (take (writes_counted j) (writes j))) ≡ true) (λ j. Bool-set _ true) c.ok d.ok i;
-      reads_fit = is_prop→PathP (λ j. reads_counted j ≤ 4) (λ j. le_prop) c.reads_fit d.reads_fit i;
-      reads_blank = is_prop→PathP (λ j. reads j ≡ filled no_read (take (reads_counted j) (reads j))) (λ j. is_set (Coded-set (read.the_row).coded) _ _) c.reads_blank d.reads_blank i;
-      writes_fit = is_prop→PathP (λ j. writes_counted j ≤ 4) (λ j. le_prop) c.writes_fit d.writes_fit i;
-      writes_blank = is_prop→PathP (λ j. writes j ≡ filled no_write (take (writes_counted j) (writes j))) (λ j. is_set (Coded-set (write.the_row).coded) _ _) c.writes_blank d.writes_blank i;
+      reads = (e i).reads;
+      writes = (e i).writes;
+      ok = is_prop→PathP (λ j. sound (e j) ≡ true) (λ j. Bool-set _ true) c.ok d.ok i;
     }
 
 -- what a content says gives that content

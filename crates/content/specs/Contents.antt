@@ -1,10 +1,10 @@
-use Rattle.std.specs.Prelude.{◌≡◌, true, false, take, Some, None, Option}
+use Rattle.std.specs.Prelude.{◌≡◌, true, false, Some, None, Option}
 use Rattle.content.specs.Rules.{Body, body_of, sound}
 use Rattle.content.specs.declared.content.Content.{Content}
 
 -- what the content says
 abbrev pub body : Content → Body
-body c = body_of c.timestamp (take c.read_count c.reads) (take c.write_count c.writes)
+body c = body_of c.timestamp c.reads c.writes
 
 -- the content that says it, or none exactly if it is not sound
 abbrev pub Made : Body → Option Content → Type 0

@@ -1,4 +1,4 @@
-use Rattle.std.specs.Prelude.{◌≡◌, ℕ, zero, suc, ◌+◌, ◌-◌, ◌<◌, ◌≤◌, Bool, true, not, ◌&&◌, List, ◌++◌, length, replicate, ◌==◌, ◌≢◌, nat_le, slice_index_or}
+use Rattle.std.specs.Prelude.{◌≡◌, ℕ, zero, suc, ◌+◌, ◌<◌, ◌≤◌, Bool, true, not, ◌&&◌, List, length, ◌==◌, ◌≢◌, nat_le, slice_index_or}
 use Rattle.values.specs.declared.timestamp.Timestamp.{Timestamp}
 use Rattle.values.specs.Times.{null, named, version, before}
 use Rattle.content.specs.declared.rows.Read.{Read}
@@ -80,7 +80,3 @@ pub record Sound (b : Body) : Type 0 where
 pub record SoundTested : Type 0 where
   pub only : (b : Body) → sound b ≡ true → Sound b
   pub every : (b : Body) → Sound b → sound b ≡ true
-
--- the list filled up to four places
-abbrev pub filled : {X : Type 0} → X → List X → List X
-filled blank xs = xs ++ replicate (4 - length xs) blank

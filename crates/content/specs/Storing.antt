@@ -1,20 +1,26 @@
-use Rattle.std.specs.Prelude.{◌≡◌, Bool, true, false, ◌&&◌, take, Some, None, Option, nat_le}
+use Rattle.std.specs.Prelude.{◌≡◌, Bool, true, false, Ok, Err, Result}
 use Rattle.content.specs.Rules.{Body, body_of, sound}
 use Rattle.content.specs.Contents.{body}
 use Rattle.content.specs.declared.content.Content.{Content}
 use Rattle.content.specs.declared.stored.StoredContent.{StoredContent}
+use Rattle.content.specs.declared.stored.Unsound.{Unsound}
 
 abbrev pub stored : Content → StoredContent
-stored c = record { timestamp = c.timestamp; reads = c.reads; read_count = c.read_count; writes = c.writes; write_count = c.write_count }
+stored c = record { timestamp = c.timestamp; reads = c.reads; writes = c.writes }
 
 -- what the numbers say
 abbrev pub stored_body : StoredContent → Body
-stored_body s = body_of s.timestamp (take s.read_count s.reads) (take s.write_count s.writes)
+stored_body s = body_of s.timestamp s.reads s.writes
 
 -- the numbers are those of a content
 abbrev pub restorable : StoredContent → Bool
-restorable s = nat_le s.read_count 4 && (nat_le s.write_count 4 && sound (stored_body s))
+restorable s = sound (stored_body s)
 
-abbrev pub Restored : StoredContent → Option Content → Type 0
-Restored s None = restorable s ≡ false
-Restored s (Some c) = (restorable s ≡ true) × (body c ≡ stored_body s)
+-- the content that says what the numbers say, or none exactly if they are those of no content
+abbrev pub Restored : StoredContent → Result Content Unsound → Type 0
+Restored s (Err _) = restorable s ≡ false
+Restored s (Ok c) = (restorable s ≡ true) × (body c ≡ stored_body s)
+
+-- the numbers of a content give that content back
+abbrev pub RestoresStored : Type 0
+RestoresStored = (s : StoredContent) (r : Result Content Unsound) (c : Content) → Restored s r → s ≡ stored c → r ≡ Ok c

@@ -1,30 +1,20 @@
-ghost use Rattle.std.specs.Prelude.{◌≡◌, ℕ, ◌≤◌, length};
-ghost use Rattle.content.specs.Rules.{differ, keys_of, filled, no_read, no_write};
+ghost use Rattle.std.specs.Prelude.{◌≡◌, ℕ, length};
+ghost use Rattle.content.specs.Rules.{differ, keys_of, no_read, no_write};
 
 use crate::rows::{Read, Write};
+use bounded::Blank;
 use values::timestamp::Timestamp;
 
-// What a read and a write have in common: a key, and a blank that fills an unused place.
-pub(crate) trait Keyed: Copy {
+// What a read and a write have in common: a key, and a blank that stands for a row that is not there.
+pub trait Keyed: Blank {
     ghost key: { Self → ℕ };
-
-    ghost blank: { Self };
 
     fn key(&self) -> u32
         ensures { result ≡ key self.now };
-
-    fn blank() -> Self
-        ensures { result ≡ blank };
 }
 
-impl Keyed for Read {
-    ghost key = { λ r. r.key };
-
+impl Blank for Read {
     ghost blank = { no_read };
-
-    fn key(&self) -> u32 {
-        self.key
-    }
 
     fn blank() -> Read {
         Read {
@@ -34,23 +24,33 @@ impl Keyed for Read {
     }
 }
 
-impl Keyed for Write {
-    ghost key = { λ w. w.key };
-
+impl Blank for Write {
     ghost blank = { no_write };
-
-    fn key(&self) -> u32 {
-        self.key
-    }
 
     fn blank() -> Write {
         Write { key: 0, value: 0 }
     }
 }
 
+impl Keyed for Read {
+    ghost key = { λ r. r.key };
+
+    fn key(&self) -> u32 {
+        self.key
+    }
+}
+
+impl Keyed for Write {
+    ghost key = { λ w. w.key };
+
+    fn key(&self) -> u32 {
+        self.key
+    }
+}
+
 // The keys differ: the first pair of equal ones ends the search.
 pub(crate) fn keys_differ<T: Keyed>(rows: &[T]) -> bool
-    ensures { result ≡ differ (keys_of T.Keyed.key T.Keyed.blank rows.now) (length rows.now) }
+    ensures { result ≡ differ (keys_of T.Keyed.key T.Blank.blank rows.now) (length rows.now) }
 {
     for (i, row) in rows.iter().enumerate() {
         for earlier in &rows[0..i] {
@@ -60,16 +60,4 @@ pub(crate) fn keys_differ<T: Keyed>(rows: &[T]) -> bool
         }
     }
     true
-}
-
-// The rows, and blanks in the places behind them.
-pub(crate) fn fill<T: Keyed>(rows: &[T]) -> [T; 4]
-    requires { length rows.now ≤ 4 }
-    ensures { result ≡ filled T.Keyed.blank rows.now }
-{
-    let mut places = [T::blank(); 4];
-    for (i, row) in rows.iter().enumerate() {
-        places[i] = *row;
-    }
-    places
 }

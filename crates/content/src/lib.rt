@@ -2,7 +2,7 @@
 #![tactic(auto)]
 
 pub mod content;
-mod keyed;
+pub mod keyed;
 mod making;
 pub mod rows;
 pub mod stored;

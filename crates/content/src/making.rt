@@ -3,8 +3,9 @@ ghost use Rattle.content.specs.Contents.{body, Made, ToldByBody};
 ghost use Rattle.content.specs.Rules.{SoundTested, body_of, few, reads_before, sound};
 
 use crate::content::Content;
-use crate::keyed::{fill, keys_differ};
+use crate::keyed::keys_differ;
 use crate::rows::{Read, Write};
+use bounded::Bounded;
 use values::timestamp::Timestamp;
 
 fn all_readable(timestamp: Timestamp, reads: &[Read]) -> bool
@@ -47,10 +48,8 @@ impl Content {
         }
         Some(Content {
             timestamp,
-            reads: fill(reads),
-            read_count: reads.len(),
-            writes: fill(writes),
-            write_count: writes.len(),
+            reads: Bounded::new(reads)?,
+            writes: Bounded::new(writes)?,
         })
     }
 
@@ -63,12 +62,12 @@ impl Content {
     pub fn reads(&self) -> &[Read]
         ensures { result.now ≡ (body self.now).reads }
     {
-        &self.reads[0..self.read_count]
+        self.reads.as_slice()
     }
 
     pub fn writes(&self) -> &[Write]
         ensures { result.now ≡ (body self.now).writes }
     {
-        &self.writes[0..self.write_count]
+        self.writes.as_slice()
     }
 }

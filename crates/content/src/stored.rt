@@ -1,52 +1,52 @@
 ghost use Rattle.std.specs.Prelude.{◌≡◌, Some};
-ghost use Rattle.content.specs.Storing.{stored, Restored};
+ghost use Rattle.content.specs.Storing.{stored, Restored, RestoresStored};
 
 use crate::content::Content;
 use crate::rows::{Read, Write};
+use bounded::Bounded;
 use values::timestamp::Timestamp;
 
 // A content as plain numbers, which only a content fills.
 #[derive(Clone, Copy)]
 pub struct StoredContent {
     timestamp: Timestamp,
-    reads: [Read; 4],
-    read_count: usize,
-    writes: [Write; 4],
-    write_count: usize,
+    reads: Bounded<Read, 4>,
+    writes: Bounded<Write, 4>,
 }
 
-impl StoredContent {
-    pub fn from_content(content: &Content) -> StoredContent
-        ensures { result ≡ stored content.now }
-    {
+// The numbers are those of no content.
+#[derive(Clone, Copy)]
+pub struct Unsound;
+
+impl From<&Content> for StoredContent {
+    ghost from_gives = { λ c s. s ≡ stored c.now };
+
+    fn from(content: &Content) -> StoredContent {
         StoredContent {
             timestamp: content.timestamp,
             reads: content.reads,
-            read_count: content.read_count,
             writes: content.writes,
-            write_count: content.write_count,
         }
     }
+}
 
-    // The content that the numbers are those of; they are checked again.
-    pub fn restore(&self) -> Option<Content>
-        ensures restored { Restored self.now result }
-        ensures back { (c : Content) → self.now ≡ stored c → result ≡ Some c }
-    {
-        if self.read_count > 4 || self.write_count > 4 {
-            return None;
-        }
-        Content::new(
-            self.timestamp,
-            &self.reads[0..self.read_count],
-            &self.writes[0..self.write_count],
-        )
+// The content that the numbers are those of; they are checked again.
+impl TryFrom<&StoredContent> for Content {
+    type Error = Unsound;
+
+    ghost try_from_gives = { λ s r. Restored s.now r };
+
+    fn try_from(stored: &StoredContent) -> Result<Content, Unsound> {
+        let reads = stored.reads.as_slice();
+        let writes = stored.writes.as_slice();
+        Content::new(stored.timestamp, reads, writes).ok_or(Unsound)
     }
 }
 
 // What was stored comes back.
 pub fn store_and_restore(content: Content) -> Option<Content>
-    ensures { result ≡ Some content }
+    ensures same { result ≡ Some content }
+    ensures law { RestoresStored }
 {
-    StoredContent::from_content(&content).restore()
+    Content::try_from(&StoredContent::from(&content)).ok()
 }

@@ -1,7 +1,6 @@
-use Rattle.std.proofs.Common.{◌≡◌, true, Some, None, sym, ap, ◌∙◌}
-use Rattle.content.specs.Rules.{sound, body_of, no_read, no_write}
-use Rattle.content.proofs.Fill.{still_filled}
-use Rattle.content.proofs.Whole.{sound_tested, told_by_body, same_body, made_again}
+use Rattle.std.proofs.Common.{None, sym}
+use Rattle.content.specs.Rules.{body_of}
+use Rattle.content.proofs.Whole.{sound_tested, told_by_body, made_again}
 use Rattle.content.proofs.content.Content.new.Goals as goal
 
 pub returns-then-not-is_sound : goal.returns-then-not-is_sound
@@ -9,26 +8,11 @@ returns-then-not-is_sound c =
     let made = sym c.if-not-is_sound.ensures in
     record { made = made; again = λ d e. made_again d _ None made e; tested = sound_tested; told = told_by_body }
 
-pub invariant_of-result : goal.invariant_of-result
-invariant_of-result c =
-    let reads = c.args.reads.now in
-    let writes = c.args.writes.now in
-    let ok : sound (body_of c.args.timestamp reads writes) ≡ true = sym c.if-not-is_sound.ensures in
-    let s = sound_tested.only (body_of c.args.timestamp reads writes) ok in
-    record {
-      ok = ap sound (same_body c.args.timestamp reads _ writes _ c.fill.ensures c.fill-2.ensures) ∙ ok;
-      reads_fit = s.few_reads;
-      reads_blank = still_filled no_read reads _ c.fill.ensures;
-      writes_fit = s.few_writes;
-      writes_blank = still_filled no_write writes _ c.fill-2.ensures;
-    }
+pub returns-clause-again : goal.returns-clause-again
+returns-clause-again c d e = made_again d _ _ (sym c.if-not-is_sound.ensures, λ i. body_of c.args.timestamp (c.in_ok-new.ensures.1 i) (c.in_ok-new-2.ensures.1 i)) e
 
-pub returns : goal.returns
-returns c =
-    let same = same_body c.args.timestamp c.args.reads.now _ c.args.writes.now _ c.fill.ensures c.fill-2.ensures in
-    record {
-      made = (sym c.if-not-is_sound.ensures, same);
-      again = λ d e. ap Some (told_by_body _ d (same ∙ sym e));
-      tested = sound_tested;
-      told = told_by_body;
-    }
+pub returns-clause-tested : goal.returns-clause-tested
+returns-clause-tested c = sound_tested
+
+pub returns-clause-told : goal.returns-clause-told
+returns-clause-told c = told_by_body
