@@ -1,7 +1,6 @@
 use Rattle.std.specs.Prelude.{◌≡◌, ℕ, ◌<◌, Bool, true, false, ◌⊎◌, List, length, Some, None, Option, slice_index_or}
-use Rattle.std.specs.declared.cmp.Ordering.TheVariants.{Less, Equal, Greater}
 use Rattle.std.specs.declared.cmp.Ordering.{Ordering}
-use Rattle.std.specs.Ordering.{MatchOrdering}
+use Rattle.std.specs.Ordering.{MatchOrdering, is_lt}
 
 -- Of any two, exactly one holds: the first lies below the second, they are the same, or the second lies below the first.
 pub record IsTotalOrder {K : Type 0} (below : K → K → Bool) : Type 0 where
@@ -10,10 +9,13 @@ pub record IsTotalOrder {K : Type 0} (below : K → K → Bool) : Type 0 where
   pub transitive : (x y z : K) → below x y ≡ true → below y z ≡ true → below x z ≡ true
   pub total : (x y : K) → (below x y ≡ true) ⊎ ((x ≡ y) ⊎ (below y x ≡ true))
 
--- every answer that a comparison may give is the one by `below`
-abbrev pub Compares : {K : Type 0} → (K → K → Bool) → (K → K → Ordering → Type 0) → Type 0
-Compares {K} below answers =
-    (x y : K) (r : Ordering) → answers x y r → MatchOrdering r (below x y ≡ true) (x ≡ y) (below y x ≡ true)
+-- a comparison puts the first before the second
+abbrev pub precedes : {K : Type 0} → (K → K → Ordering) → K → K → Bool
+precedes cmp x y = is_lt (cmp x y)
+
+-- a comparison answers by `below`, and Equal of the same alone
+abbrev pub Compares : {K : Type 0} → (K → K → Bool) → (K → K → Ordering) → Type 0
+Compares {K} below cmp = (x y : K) → MatchOrdering (cmp x y) (below x y ≡ true) (x ≡ y) (below y x ≡ true)
 
 -- x is one of xs
 abbrev pub OneOf : {K : Type 0} → K → List K → Type 0
@@ -36,9 +38,3 @@ Greatest below xs r = Extreme (λ x m. below m x) xs r
 -- one of xs, and none of xs lies below it
 abbrev pub Least : {K : Type 0} → (K → K → Bool) → List K → Option K → Type 0
 Least below xs r = Extreme below xs r
-
--- x beats y on a side of the order: it lies below y, or above it; an equal one does not
-abbrev pub beats : {K : Type 0} → (K → K → Bool) → Ordering → K → K → Bool
-beats below Less x y = below x y
-beats below Equal x y = false
-beats below Greater x y = below y x

@@ -2,7 +2,8 @@ use Rattle.std.proofs.Common.{◌≡◌, ◌≢◌, true, false, ◌⊎◌, Deci
 use Rattle.std.proofs.lemmas.Bool.{cases_Bool}
 use Rattle.std.proofs.lemmas.Bool.Decides.{nat_tests}
 use Rattle.values.specs.declared.timestamp.Timestamp.{Timestamp}
-use Rattle.values.specs.Orders.{same_timestamp, timestamps_ordered}
+use Rattle.order.proofs.Orders.{ordered}
+use Rattle.values.proofs.Orders.{same_timestamp, timestamps}
 use Rattle.values.specs.Times.{null, before, named, version, TimestampLaws}
 
 null_first : (t : Timestamp) → (t ≢ null) → before null t ≡ true
@@ -28,7 +29,7 @@ null_before t n = grind (arith, nat_tests)
 
 pub timestamp_laws : TimestampLaws
 timestamp_laws = record {
-  ordered = timestamps_ordered;
+  ordered = ordered timestamps;
   null_first = null_first;
   whole = λ t. refl;
   names = λ s t n e. n (ap (λ (x : Timestamp). x.transaction) e);

@@ -1,10 +1,9 @@
-ghost use Rattle.std.specs.Prelude.{◌≡◌, refl};
+ghost use Rattle.std.specs.Prelude.{◌≡◌};
 ghost use Rattle.order.specs.Extremes.{Greatest};
 ghost use Rattle.values.specs.Numbers.{vote_number, outcome_number, Numbered};
-ghost use Rattle.values.specs.Proposals.{sooner, lower};
-ghost use Rattle.values.specs.Orders.{outcomes_ordered, outcomes_compare, proposals_ordered, proposals_compare};
+ghost use Rattle.values.specs.Proposals.{lower};
 
-use order::{TotalOrder, greatest};
+use order::greatest;
 
 // A replica's vote on a transaction.
 #[derive(Clone, Copy)]
@@ -25,22 +24,6 @@ pub enum Outcome {
 pub struct Proposal {
     pub view: u32,
     pub outcome: Outcome,
-}
-
-impl TotalOrder for Outcome {
-    ghost below = { sooner };
-
-    ghost total = { outcomes_ordered };
-
-    ghost compares = { outcomes_compare Self.Ord.cmp refl refl refl refl };
-}
-
-impl TotalOrder for Proposal {
-    ghost below = { lower };
-
-    ghost total = { proposals_ordered };
-
-    ghost compares = { proposals_compare ⟦<Outcome as Ord>⟧.cmp refl refl refl refl };
 }
 
 impl Vote {

@@ -1,9 +1,8 @@
 ghost use Rattle.std.specs.Prelude.{◌≡◌};
 ghost use Rattle.order.specs.Extremes.{Greatest};
 ghost use Rattle.values.specs.Times.{named, timestamp, null, before, version};
-ghost use Rattle.values.specs.Orders.{timestamps_ordered, timestamps_compare};
 
-use order::{TotalOrder, greatest};
+use order::greatest;
 
 // When a transaction took place: the second, and for equal seconds the transaction's number.
 // It is also the version of what that transaction wrote; the null one stands for no transaction.
@@ -11,14 +10,6 @@ use order::{TotalOrder, greatest};
 pub struct Timestamp {
     second: u32,
     transaction: u32,
-}
-
-impl TotalOrder for Timestamp {
-    ghost below = { before };
-
-    ghost total = { timestamps_ordered };
-
-    ghost compares = { timestamps_compare };
 }
 
 impl Timestamp {
