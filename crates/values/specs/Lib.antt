@@ -1,3 +1,4 @@
 pub mod Numbers
 pub mod Proposals
 pub mod Times
+pub mod Words

@@ -1,8 +1,9 @@
-use Rattle.std.specs.Prelude.{◌≡◌, ℕ, ◌≤◌, Some, None, Option, ◌≢◌}
+use Rattle.std.specs.Prelude.{◌≡◌, ℕ, ◌≤◌, Some, None, Option, Ok, Err, Result, ◌≢◌}
 use Rattle.values.specs.declared.decision.Vote.{Vote}
 use Rattle.values.specs.declared.decision.Vote.TheVariants.{No, Yes}
 use Rattle.values.specs.declared.decision.Outcome.{Outcome}
 use Rattle.values.specs.declared.decision.Outcome.TheVariants.{Abort, Commit}
+use Rattle.values.specs.declared.decision.UnknownNumber.{UnknownNumber}
 use Rattle.values.specs.declared.refusal.Refusal.{Refusal}
 use Rattle.values.specs.declared.refusal.Refusal.TheVariants.{NoSuchReplica, NeverOpened, NoTransactionLeft, NotADraft, AlreadyRead, FifthKey, EmptyDraft, TimestampTooLow, NotPolling, TooFewVotes, NothingToTakeOver, AlreadyDecided, ViewTooHigh, NoSlot, StoreFull, NotAFrame, BadCapacity, BadReplicaCount, ShortBuffer}
 
@@ -10,6 +11,11 @@ use Rattle.values.specs.declared.refusal.Refusal.TheVariants.{NoSuchReplica, Nev
 abbrev pub Numbered : {X : Type 0} → (X → ℕ) → ℕ → Option X → Type 0
 Numbered {X} number n None = (x : X) → number x ≢ n
 Numbered {X} number n (Some x) = (number x ≡ n) × ((y : X) → number y ≡ n → y ≡ x)
+
+-- the one thing that has the number n, an error with n where nothing has it
+abbrev pub Decodes : {X : Type 0} → (X → ℕ) → ℕ → Result X UnknownNumber → Type 0
+Decodes number n (Ok x) = Numbered number n (Some x)
+Decodes number n (Err e) = Numbered number n None × (e.0 ≡ n)
 
 -- no vote is 0
 abbrev pub vote_number : Option Vote → ℕ

@@ -1,52 +1,114 @@
-ghost use Rattle.std.specs.Prelude.{◌≡◌};
+ghost use Rattle.std.specs.Prelude.{◌≡◌, Some};
 ghost use Rattle.order.specs.Extremes.{Greatest};
-ghost use Rattle.values.specs.Numbers.{vote_number, outcome_number, Numbered};
+ghost use Rattle.values.specs.Numbers.{vote_number, outcome_number, Numbered, Decodes};
 ghost use Rattle.values.specs.Proposals.{lower};
+ghost use Rattle.values.specs.Words.{unknown_words};
 
 use order::greatest;
+use std::error::Error;
+use std::fmt;
 
 // A replica's vote on a transaction.
-#[derive(Clone, Copy)]
+#[derive(Clone, Copy, Debug, PartialEq, Eq)]
 pub enum Vote {
     No,
     Yes,
 }
 
 // What becomes of a transaction; an abort comes first in the order of proposals of one view.
-#[derive(Clone, Copy, PartialEq, Eq, PartialOrd, Ord)]
+#[derive(Clone, Copy, Debug, PartialEq, Eq, PartialOrd, Ord)]
 pub enum Outcome {
     Abort,
     Commit,
 }
 
 // An outcome that a coordinator proposed in a view.
-#[derive(Clone, Copy, PartialEq, Eq, PartialOrd, Ord)]
+#[derive(Clone, Copy, Debug, PartialEq, Eq, PartialOrd, Ord)]
 pub struct Proposal {
     pub view: u32,
     pub outcome: Outcome,
 }
 
+// A number that has no meaning where it stands.
+#[derive(Clone, Copy, Debug, PartialEq, Eq)]
+pub struct UnknownNumber(pub u32);
+
+impl fmt::Display for UnknownNumber {
+    ghost output = { λ e. Some (unknown_words e) };
+
+    fn fmt<W: fmt::Write>(&self, f: &mut fmt::Formatter<W>) -> fmt::Result {
+        write!(f, "no meaning has number {}", self.0)
+    }
+}
+
+impl Error for UnknownNumber {}
+
+impl From<Vote> for u32 {
+    ghost from_gives = { λ vote number. number ≡ vote_number (Some vote) };
+
+    fn from(vote: Vote) -> u32 {
+        match vote {
+            Vote::No => 1,
+            Vote::Yes => 2,
+        }
+    }
+}
+
+impl TryFrom<u32> for Vote {
+    type Error = UnknownNumber;
+
+    ghost try_from_gives = { Decodes (λ vote. vote_number (Some vote)) };
+
+    fn try_from(number: u32) -> Result<Vote, UnknownNumber> {
+        match number {
+            1 => Ok(Vote::No),
+            2 => Ok(Vote::Yes),
+            _ => Err(UnknownNumber(number)),
+        }
+    }
+}
+
+// The two methods are no impls of From and TryFrom, since neither Option nor u32 is a type of this crate.
 impl Vote {
     // The number of a vote, or of no vote, in a message.
     pub fn number(vote: Option<Vote>) -> u32
         ensures { result ≡ vote_number vote }
     {
-        match vote {
-            None => 0,
-            Some(Vote::No) => 1,
-            Some(Vote::Yes) => 2,
-        }
+        vote.map_or(0, u32::from)
     }
 
-    // The vote with that number, which may be no vote; none if the number has no meaning.
-    pub fn from_number(number: u32) -> Option<Option<Vote>>
-        ensures { Numbered vote_number number result }
+    // The vote with that number, which may be no vote.
+    pub fn from_number(number: u32) -> Result<Option<Vote>, UnknownNumber>
+        ensures { Decodes vote_number number result }
     {
         match number {
-            0 => Some(None),
-            1 => Some(Some(Vote::No)),
-            2 => Some(Some(Vote::Yes)),
-            _ => None,
+            0 => Ok(None),
+            _ => Vote::try_from(number).map(Some),
+        }
+    }
+}
+
+impl From<Outcome> for u32 {
+    ghost from_gives = { λ outcome number. number ≡ outcome_number outcome };
+
+    fn from(outcome: Outcome) -> u32 {
+        match outcome {
+            Outcome::Abort => 1,
+            Outcome::Commit => 2,
+        }
+    }
+}
+
+impl TryFrom<u32> for Outcome {
+    type Error = UnknownNumber;
+
+    ghost try_from_gives = { Decodes outcome_number };
+
+    fn try_from(number: u32) -> Result<Outcome, UnknownNumber> {
+        match number {
+            1 => Ok(Outcome::Abort),
+            2 => Ok(Outcome::Commit),
+            _ => Err(UnknownNumber(number)),
         }
     }
 }
@@ -56,20 +118,13 @@ impl Outcome {
     pub fn number(self) -> u32
         ensures { result ≡ outcome_number self }
     {
-        match self {
-            Outcome::Abort => 1,
-            Outcome::Commit => 2,
-        }
+        u32::from(self)
     }
 
     pub fn from_number(number: u32) -> Option<Outcome>
         ensures { Numbered outcome_number number result }
     {
-        match number {
-            1 => Some(Outcome::Abort),
-            2 => Some(Outcome::Commit),
-            _ => None,
-        }
+        Outcome::try_from(number).ok()
     }
 }
 

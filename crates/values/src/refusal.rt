@@ -1,8 +1,12 @@
-ghost use Rattle.std.specs.Prelude.{◌≡◌};
+ghost use Rattle.std.specs.Prelude.{◌≡◌, Some};
 ghost use Rattle.values.specs.Numbers.{refusal_number, refusal_value};
+ghost use Rattle.values.specs.Words.{refusal_words};
+
+use std::error::Error;
+use std::fmt;
 
 // Why a call is declined.
-#[derive(Clone, Copy)]
+#[derive(Clone, Copy, Debug, PartialEq, Eq)]
 pub enum Refusal {
     NoSuchReplica,
     NeverOpened,
@@ -25,11 +29,11 @@ pub enum Refusal {
     ShortBuffer,
 }
 
-impl Refusal {
-    pub fn number(self) -> u8
-        ensures { result ≡ refusal_number self }
-    {
-        match self {
+impl From<Refusal> for u8 {
+    ghost from_gives = { λ refusal number. number ≡ refusal_number refusal };
+
+    fn from(refusal: Refusal) -> u8 {
+        match refusal {
             Refusal::NoSuchReplica => 1,
             Refusal::NeverOpened => 2,
             Refusal::NoTransactionLeft => 3,
@@ -51,6 +55,14 @@ impl Refusal {
             Refusal::ShortBuffer => 19,
         }
     }
+}
+
+impl Refusal {
+    pub fn number(self) -> u8
+        ensures { result ≡ refusal_number self }
+    {
+        u8::from(self)
+    }
 
     // The key of a store that is full, or the place in bytes that are no frame.
     pub fn value(self) -> Option<usize>
@@ -63,3 +75,17 @@ impl Refusal {
         }
     }
 }
+
+impl fmt::Display for Refusal {
+    ghost output = { λ refusal. Some (refusal_words refusal) };
+
+    fn fmt<W: fmt::Write>(&self, f: &mut fmt::Formatter<W>) -> fmt::Result {
+        let number = self.number();
+        match self.value() {
+            None => write!(f, "{number}"),
+            Some(value) => write!(f, "{number} at {value}"),
+        }
+    }
+}
+
+impl Error for Refusal {}

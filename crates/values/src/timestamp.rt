@@ -1,12 +1,14 @@
-ghost use Rattle.std.specs.Prelude.{◌≡◌};
+ghost use Rattle.std.specs.Prelude.{◌≡◌, Some};
 ghost use Rattle.order.specs.Extremes.{Greatest};
 ghost use Rattle.values.specs.Times.{named, timestamp, null, before, version};
+ghost use Rattle.values.specs.Words.{timestamp_words};
 
 use order::greatest;
+use std::fmt;
 
 // When a transaction took place: the second, and for equal seconds the transaction's number.
 // It is also the version of what that transaction wrote; the null one stands for no transaction.
-#[derive(Clone, Copy, PartialEq, Eq, PartialOrd, Ord)]
+#[derive(Clone, Copy, Debug, Default, PartialEq, Eq, PartialOrd, Ord)]
 pub struct Timestamp {
     second: u32,
     transaction: u32,
@@ -26,7 +28,7 @@ impl Timestamp {
     pub fn null() -> Timestamp
         ensures { result ≡ null }
     {
-        Timestamp::new(0, 0)
+        Timestamp::default()
     }
 
     pub fn second(self) -> u32
@@ -52,7 +54,7 @@ impl Timestamp {
     pub fn names_transaction(self) -> bool
         ensures { result ≡ named self }
     {
-        1 <= self.transaction && self.transaction <= 32
+        (1..=32).contains(&self.transaction)
     }
 
     // The null one, or one that names a transaction.
@@ -60,6 +62,14 @@ impl Timestamp {
         ensures { result ≡ version self }
     {
         self == Timestamp::null() || self.names_transaction()
+    }
+}
+
+impl fmt::Display for Timestamp {
+    ghost output = { λ timestamp. Some (timestamp_words timestamp) };
+
+    fn fmt<W: fmt::Write>(&self, f: &mut fmt::Formatter<W>) -> fmt::Result {
+        write!(f, "{}.{}", self.second, self.transaction)
     }
 }
 
