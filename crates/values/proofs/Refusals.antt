@@ -1,5 +1,6 @@
-use Rattle.std.proofs.Common.{◌≡◌, ℕ, zero, suc, ◌+◌, ◌-◌, ◌<◌, ◌≤◌, Bool, true, ◌&&◌, eqb, List, [], ◌∷◌, get_or, Some, None, Option, sym, refl, ◌∙◌, subst, arith, lit≤}
-use Rattle.std.proofs.lemmas.Bool.Decides.{Decides-eqb, Decides-below_and}
+use Rattle.std.proofs.Common.{◌≡◌, ℕ, ◌-◌, ◌≤◌, List, [], ◌∷◌, get_or, Some, None, Option, sym, refl, ◌∙◌, arith, lit≤}
+use Rattle.std.proofs.Math.ListN.{get_or-map}
+use Rattle.std.proofs.lemmas.List.FromFn.{get_or-range_with_len}
 use Rattle.values.specs.declared.refusal.Refusal.{Refusal}
 use Rattle.values.specs.declared.refusal.Refusal.TheVariants.{NoSuchReplica, NeverOpened, NoTransactionLeft, NotADraft, AlreadyRead, FifthKey, EmptyDraft, TimestampTooLow, NotPolling, TooFewVotes, NothingToTakeOver, AlreadyDecided, ViewTooHigh, NoSlot, StoreFull, NotAFrame, BadCapacity, BadReplicaCount, ShortBuffer}
 use Rattle.values.specs.Numbers.{refusal_number, refusal_value, RefusalLaws}
@@ -57,20 +58,9 @@ known BadCapacity = (lit≤ tt, lit≤ tt, refl)
 known BadReplicaCount = (lit≤ tt, lit≤ tt, refl)
 known ShortBuffer = (lit≤ tt, lit≤ tt, refl)
 
--- the first n numbers are those of the refusals that stand there
-abbrev right : ℕ → Bool
-right k = eqb (refusal_number (refusal_at (k + 1) None)) (k + 1)
-
-abbrev all_right : ℕ → Bool
-all_right zero = true
-all_right (suc n) = right n && all_right n
-
-numbered : (k : ℕ) → k < 19 → refusal_number (refusal_at (k + 1) None) ≡ k + 1
-numbered = (Decides-below_and right (λ k. refusal_number (refusal_at (k + 1) None) ≡ k + 1) all_right (λ k. Decides-eqb _ _) refl (λ _. refl) 19).0 refl
-
 pub refusal_laws : RefusalLaws
 refusal_laws = record {
   within = λ p. ((known p).0, (known p).1);
-  each = λ n low high. (refusal_at n None, subst (λ (m : ℕ). refusal_number (refusal_at m None) ≡ m) {x = n - 1 + 1} (omega arith) (numbered (n - 1) (omega arith)));
+  each = λ n low high. (refusal_at n None, sym (get_or-map refusal_number (refusals 0) (n - 1) NoSuchReplica) ∙ get_or-range_with_len 1 19 (n - 1) 1 (omega arith) ∙ omega arith);
   told = λ p q a b. sym (known p).2 ∙ (λ i. refusal_at (a i) (b i)) ∙ (known q).2;
 }
