@@ -6,7 +6,7 @@ use Rattle.values.specs.declared.refusal.Refusal.{Refusal}
 use Rattle.values.specs.declared.timestamp.Timestamp.{Timestamp}
 
 abbrev pub unknown_words : UnknownNumber → List ℕ
-unknown_words e = codes "no meaning has number " ++ decimal e.0
+unknown_words e = codes "unknown number " ++ decimal e.0
 
 abbrev pub value_words : Option ℕ → List ℕ
 value_words None = []

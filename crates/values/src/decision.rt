@@ -37,7 +37,7 @@ impl fmt::Display for UnknownNumber {
     ghost output = { λ e. Some (unknown_words e) };
 
     fn fmt<W: fmt::Write>(&self, f: &mut fmt::Formatter<W>) -> fmt::Result {
-        write!(f, "no meaning has number {}", self.0)
+        write!(f, "unknown number {}", self.0)
     }
 }
 

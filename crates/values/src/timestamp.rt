@@ -24,7 +24,7 @@ impl Timestamp {
         }
     }
 
-    // Before every other timestamp.
+    // The default one, before every other timestamp.
     pub fn null() -> Timestamp
         ensures { result ≡ null }
     {
