@@ -2,7 +2,7 @@
 #![tactic(auto)]
 
 ghost use Rattle.std.specs.Prelude.{◌≡◌, ⊤, ◌<◌, ◌≤◌, [], ◌∷◌, ◌++◌, length};
-ghost use Rattle.bounded.specs.Lists.{Held, Pushed};
+ghost use Rattle.bounded.specs.Lists.{Held, Pushed, Extended};
 
 use std::alloc::AllocError;
 use std::marker::Model;
@@ -22,6 +22,10 @@ impl Blank for u8 {
         0
     }
 }
+
+// There is no room for all.
+#[derive(Clone, Copy)]
+pub struct Full;
 
 // At most N items, copied freely. Unused places are blank, so that equal lists are equal values.
 #[derive(PartialEq, Eq)]
@@ -99,6 +103,19 @@ impl<T: Blank, const N: usize> Bounded<T, N> {
         let end = self.len;
         self.places[end] = item;
         self.len = end + 1;
+        Ok(())
+    }
+
+    // Appends the items, or none of them where there is no room for all.
+    pub fn extend(&mut self, items: &[T]) -> Result<(), Full>
+        ensures { Extended N items.now self.old result self.new }
+    {
+        if items.len() > N - self.len {
+            return Err(Full);
+        }
+        for item in items {
+            let _ = self.push(*item);
+        }
         Ok(())
     }
 
