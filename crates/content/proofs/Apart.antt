@@ -1,5 +1,7 @@
-use Rattle.std.proofs.Common.{◌≡◌, ℕ, zero, suc, ◌+◌, ◌<◌, Bool, true, false, not, ◌&&◌, eqb, ◌⊎◌, List, length, get_or, take, sym, refl, ap, ◌∙◌, subst, inl, inr, add-one, arith}
-use Rattle.std.proofs.lemmas.List.{get_or_read, get_or-take, length-take}
+use Rattle.std.proofs.Common.{◌≡◌, ℕ, zero, suc, ◌+◌, ◌<◌, ◌≤◌, Bool, true, false, not, ◌&&◌, ◌||◌, eqb, ◌⊎◌, List, length, get_or, take, sym, refl, ap, ◌∙◌, subst, inl, inr, add-one, arith}
+use Rattle.std.proofs.lemmas.List.{get_or_read}
+use Rattle.std.proofs.lemmas.List.Folds.{list_any_more}
+use Rattle.std.specs.List.{list_any}
 use Rattle.std.proofs.lemmas.Bool.{cases_order, eq-eqb, ne_eqb, and_right, and_left, and_from, not_from_false, both_ways}
 use Rattle.values.specs.declared.timestamp.Timestamp.{Timestamp}
 use Rattle.content.specs.declared.rows.Read.{Read}
@@ -43,12 +45,36 @@ pub apart_differ : (f : ℕ → ℕ) (n : ℕ) → Apart f n → differ f n ≡ 
 apart_differ f zero h = refl
 apart_differ f (suc n) h = and_from _ _ (unlike_apart f (f n) n (λ i l. h i n l (omega arith))) (apart_differ f n (λ i j l m. h i j l (omega arith)))
 
--- the keys of a row of the list and of one before it
-pub keys_read : {X : Type 0} (key : X → ℕ) (blank : X) (xs : List X) (i : ℕ) (ys : List X) (j : ℕ) (x y : X) (k l : ℕ) → ys ≡ take i xs
-    → i < length xs → j < length ys → x ≡ get_or xs i x → y ≡ get_or ys j y → k ≡ key x → l ≡ key y → (k ≡ keys_of key blank xs i) × (l ≡ keys_of key blank xs j)
-keys_read {X} key blank xs i ys j x y k l t h g e f p q =
-    let m : j < i = omega (arith, ap length t, length-take i xs) in
-    (p ∙ ap key (get_or_read xs i x h e blank), q ∙ ap key (get_or_read ys j y g f blank ∙ ap (λ (zs : List X). get_or zs j blank) t ∙ get_or-take i xs j blank m))
+either : (a b : Bool) → (not b || a) ≡ not (not a && b)
+either true true = refl
+either true false = refl
+either false true = refl
+either false false = refl
+
+-- to look for a key among the first rows is to look for it at each of their places
+pub any_unlike : {X : Type 0} (key : X → ℕ) (blank : X) (xs : List X) (k i : ℕ) → i ≤ length xs
+    → list_any (λ x. eqb (key x) k) (take i xs) ≡ not (unlike (keys_of key blank xs) k i)
+any_unlike key blank xs k zero h = refl
+any_unlike {X} key blank xs k (suc i) h =
+    ap (λ (n : ℕ). list_any (λ (x : X). eqb (key x) k) (take n xs)) (let e : suc i ≡ i + 1 = omega arith in e) ∙ list_any_more (λ x. eqb (key x) k) xs i blank (omega arith)
+    ∙ ap (λ (b : Bool). b || eqb (key (get_or xs i blank)) k) (any_unlike key blank xs k i (omega arith))
+    ∙ either (eqb (key (get_or xs i blank)) k) (unlike (keys_of key blank xs) k i)
+
+-- and to look among those before a row for its own key is to look whether the key is new
+pub has_earlier : {X : Type 0} (key : X → ℕ) (blank : X) (xs : List X) (i : ℕ) (x : X) (k : ℕ) (b : Bool) → i < length xs → x ≡ get_or xs i x → k ≡ key x
+    → b ≡ list_any (λ y. eqb (key y) k) (take i xs) → b ≡ not (unlike (keys_of key blank xs) (keys_of key blank xs i) i)
+has_earlier key blank xs i x k b h e q l =
+    l ∙ any_unlike key blank xs k i (omega arith) ∙ ap (λ (m : ℕ). not (unlike (keys_of key blank xs) m i)) (q ∙ ap key (get_or_read xs i x h e blank))
+
+-- one repeated key is enough
+pub differ_not : (f : ℕ → ℕ) (i n : ℕ) → i < n → unlike f (f i) i ≡ false → differ f n ≡ false
+differ_not f i zero h e = absurd (omega arith)
+differ_not f i (suc n) h e = go (cases_order i n) (λ l. differ_not f i n l e)
+  where
+    go : (i ≡ n) ⊎ ((i < n) ⊎ (n < i)) → (i < n → differ f n ≡ false) → (unlike f (f n) n && differ f n) ≡ false
+    go (inl m) g = and_left (unlike f (f n) n) (differ f n) (subst (λ (k : ℕ). unlike f (f k) k ≡ false) m e)
+    go (inr (inl l)) g = and_right (unlike f (f n) n) (differ f n) (g l)
+    go (inr (inr l)) g = absurd (omega arith)
 
 -- a read that no transaction at t can have made
 pub before_met : (t : Timestamp) (rs : List Read) (n i : ℕ) → i < n → readable t (get_or rs i no_read) ≡ false → reads_before t rs n ≡ false

@@ -1,4 +1,5 @@
-ghost use Rattle.std.specs.Prelude.{◌≡◌, ℕ, length};
+ghost use Rattle.std.specs.Prelude.{◌≡◌, ℕ, ◌==◌, length};
+ghost use Rattle.std.specs.List.{list_any};
 ghost use Rattle.content.specs.Rules.{differ, keys_of, no_read, no_write};
 
 use crate::rows::{Read, Write};
@@ -48,15 +49,20 @@ impl Keyed for Write {
     }
 }
 
-// The keys differ: the first pair of equal ones ends the search.
+// One of the rows has the key.
+pub fn has_key<T: Keyed>(rows: &[T], key: u32) -> bool
+    ensures { result ≡ list_any (λ row. T.Keyed.key row == key) rows.now }
+{
+    rows.iter().any(|row| row.key() == key)
+}
+
+// The keys differ: the first that an earlier row has ends the search.
 pub(crate) fn keys_differ<T: Keyed>(rows: &[T]) -> bool
     ensures { result ≡ differ (keys_of T.Keyed.key T.Blank.blank rows.now) (length rows.now) }
 {
     for (i, row) in rows.iter().enumerate() {
-        for earlier in &rows[0..i] {
-            if earlier.key() == row.key() {
-                return false;
-            }
+        if has_key(&rows[..i], row.key()) {
+            return false;
         }
     }
     true
