@@ -24,7 +24,7 @@ impl Blank for u8 {
 }
 
 // There is no room for all.
-#[derive(Clone, Copy)]
+#[derive(Clone, Copy, Debug)]
 pub struct Full;
 
 // At most N items, copied freely. Unused places are blank, so that equal lists are equal values.

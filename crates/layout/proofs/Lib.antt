@@ -1,6 +1,6 @@
+pub mod Length
 pub mod Rows
 pub mod Tables
 pub mod Whole
 pub mod Back
-pub mod Puts
 pub mod Sound

@@ -7,6 +7,8 @@ ghost use Rattle.layout.specs.Numbers.{number, Layout, width, reading, writing, 
 ghost use Rattle.layout.specs.Format.{key_new, row_fields, table_fields, content_fields};
 
 use crate::format::count_fields;
+use bounded::Bounded;
+use content::keyed::{Keyed, has_key};
 use content::rows::{Read, Write};
 use field::{Field, check};
 use values::refusal::Refusal;
@@ -44,12 +46,8 @@ pub fn tail_at(bytes: &[u8], place: usize) -> &[u8]
 }
 
 // A row: a key, and a second field with a rule of its own.
-pub trait Row: Copy {
+pub trait Row: Keyed {
     ghost layout: { Layout Self };
-
-    // What stands for a row that is not there.
-    fn blank() -> Self
-        ensures { result ≡ layout.blank };
 
     // The bytes of the second field.
     fn rest() -> usize
@@ -60,18 +58,19 @@ pub trait Row: Copy {
     fn read(bytes: &[u8]) -> Self
         ensures { result ≡ layout.row bytes.now };
 
-    // The bytes of the row, and zeros behind them.
-    fn bytes(&self) -> [u8; 9]
-        ensures { take (width layout) result ≡ layout.bytes self.now };
-
-    fn key(&self) -> u32
-        ensures { result ≡ layout.key self.now };
+    fn bytes(&self) -> Bounded<u8, 9>
+        ensures { result ≡ layout.bytes self.now };
 
     // The second field obeys its rule in a transaction with this timestamp.
     fn is_lawful(&self, timestamp: Timestamp) -> bool
         ensures { result ≡ layout.lawful timestamp self.now };
 
     ghost long: { (x : Self) → length (layout.bytes x) ≡ width layout };
+
+    // The layout's key and blank are those of the type.
+    ghost keyed: { (x : Self) → Self.Keyed.key x ≡ layout.key x };
+
+    ghost blanks: { Self.Blank.blank ≡ layout.blank };
 }
 
 impl Row for Read {
@@ -79,12 +78,9 @@ impl Row for Read {
 
     ghost long = { λ _. refl };
 
-    fn blank() -> Self {
-        Read {
-            key: 0,
-            version: Timestamp::null(),
-        }
-    }
+    ghost keyed = { λ _. refl };
+
+    ghost blanks = { refl };
 
     fn rest() -> usize {
         5
@@ -97,15 +93,11 @@ impl Row for Read {
         }
     }
 
-    fn bytes(&self) -> [u8; 9] {
+    fn bytes(&self) -> Bounded<u8, 9> {
         let [k0, k1, k2, k3] = self.key.to_be_bytes();
         let [s0, s1, s2, s3] = self.version.second().to_be_bytes();
         let transaction = (self.version.transaction() % 256) as u8;
-        [k0, k1, k2, k3, s0, s1, s2, s3, transaction]
-    }
-
-    fn key(&self) -> u32 {
-        self.key
+        Bounded::new(&[k0, k1, k2, k3, s0, s1, s2, s3, transaction]).unwrap()
     }
 
     fn is_lawful(&self, timestamp: Timestamp) -> bool {
@@ -118,9 +110,9 @@ impl Row for Write {
 
     ghost long = { λ _. refl };
 
-    fn blank() -> Self {
-        Write { key: 0, value: 0 }
-    }
+    ghost keyed = { λ _. refl };
+
+    ghost blanks = { refl };
 
     fn rest() -> usize {
         4
@@ -133,14 +125,10 @@ impl Row for Write {
         }
     }
 
-    fn bytes(&self) -> [u8; 9] {
+    fn bytes(&self) -> Bounded<u8, 9> {
         let [k0, k1, k2, k3] = self.key.to_be_bytes();
         let [v0, v1, v2, v3] = self.value.to_be_bytes();
-        [k0, k1, k2, k3, v0, v1, v2, v3, 0]
-    }
-
-    fn key(&self) -> u32 {
-        self.key
+        Bounded::new(&[k0, k1, k2, k3, v0, v1, v2, v3]).unwrap()
     }
 
     fn is_lawful(&self, _timestamp: Timestamp) -> bool {
@@ -149,14 +137,13 @@ impl Row for Write {
 }
 
 // The first rows of the bytes, at most four.
-pub fn rows_in<T: Row>(bytes: &[u8], count: usize) -> [T; 4]
-    ensures { take (min count 4) result ≡ rows_in T.Row.layout (min count 4) bytes.now }
+pub fn rows_in<T: Row>(bytes: &[u8], count: usize) -> Bounded<T, 4>
+    ensures { result ≡ rows_in T.Row.layout (min count 4) bytes.now }
 {
-    let count = count.min(4);
-    let mut rows = [T::blank(); 4];
+    let mut rows = Bounded::empty();
     let mut rest = bytes;
-    for i in 0..count {
-        rows[i] = T::read(rest);
+    for _ in 0..count.min(4) {
+        let _ = rows.push(T::read(rest));
         rest = tail_at(rest, 4 + T::rest());
     }
     rows
@@ -167,13 +154,7 @@ fn key_is_new<T: Row>(rows: &[T], i: usize) -> bool
     requires { i < length rows.now }
     ensures { result ≡ key_new T.Row.layout rows.now i }
 {
-    let key = rows[i].key();
-    for j in 0..i {
-        if rows[j].key() == key {
-            return false;
-        }
-    }
-    true
+    !has_key(&rows[..i], rows[i].key())
 }
 
 // The fields of the i-th of the rows that begin at base.
@@ -209,7 +190,7 @@ fn check_rows<T: Row>(
     requires near { base ≤ 55 }
     ensures { Checked size (table_fields T.Row.layout timestamp base rows.now) result }
 {
-    for i in 0..rows.len() {
+    for (i, _) in rows.iter().enumerate() {
         check(&row_fields(rows, i, base, timestamp), size)?;
     }
     Ok(())

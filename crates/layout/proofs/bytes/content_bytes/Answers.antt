@@ -1,24 +1,52 @@
-use Rattle.std.proofs.Common.{◌≡◌, ℕ, ◌+◌, ◌*◌, List, [], ◌∷◌, ◌++◌, length, take, sym, ap, ◌∙◌, arith, length-append}
+use Rattle.std.proofs.Common.{◌≡◌, ℕ, ◌<◌, List, [], ◌∷◌, ◌++◌, length, ◌∙◌, inl, inr, arith, subst}
+use Rattle.bounded.specs.Lists.{Held}
+use Rattle.bounded.proofs.Room.{appended}
 use Rattle.layout.specs.Numbers.{big, laid, reading, writing}
 use Rattle.layout.proofs.Rows.{exact_read, exact_write, length_laid}
-use Rattle.layout.proofs.Puts.{then_put, same_put}
 use Rattle.layout.proofs.bytes.content_bytes.Goals as goal
+
+pub returns-in_err-read_bytes : goal.returns-in_err-read_bytes
+returns-in_err-read_bytes c =
+    let n = length_laid reading exact_read.long c.args.reads.now in
+    let h : 36 < length (laid reading c.args.reads.now) = subst (Held 36 (laid reading c.args.reads.now)) c.in_err-read_bytes.was c.rows_bytes.ensures in
+    rw c.from_residual.ensures (inl (omega arith))
+
+pub returns-in_err-write_bytes : goal.returns-in_err-write_bytes
+returns-in_err-write_bytes c =
+    let n = length_laid writing exact_write.long c.args.writes.now in
+    let h : 32 < length (laid writing c.args.writes.now) = subst (Held 32 (laid writing c.args.writes.now)) c.in_err-write_bytes.was c.rows_bytes-2.ensures in
+    rw c.from_residual-in_err-write_bytes.ensures (inr (omega arith))
+
+pub overflow_cast-reads : goal.overflow_cast-reads
+overflow_cast-reads c =
+    let n = length_laid reading exact_read.long c.args.reads.now in
+    let h = c.in_ok-read_bytes.ensures.0 in
+    omega arith
+
+pub overflow_cast-writes : goal.overflow_cast-writes
+overflow_cast-writes c =
+    let n = length_laid writing exact_write.long c.args.writes.now in
+    let h = c.in_ok-write_bytes.ensures.0 in
+    omega arith
 
 pub returns : goal.returns
 returns c =
     let rs = c.args.reads.now in
     let ws = c.args.writes.now in
+    let nr = length_laid reading exact_read.long rs in
+    let nw = length_laid writing exact_write.long ws in
+    let hr = c.in_ok-read_bytes.ensures.0 in
+    let hw = c.in_ok-write_bytes.ensures.0 in
     let counts : List ℕ = length rs ∷ length ws ∷ [] in
-    let reads = laid reading rs in
-    let writes = laid writing ws in
-    let lr = length_laid reading exact_read.long rs in
-    let lw = length_laid writing exact_write.long ws in
-    let la = length-append reads writes in
-    let second = c.to_be_bytes.result in
-    let all =
-    then_put 0 c.put-at.result second (counts ++ (reads ++ writes)) c.put-at.ensures.ends c.put-at.ensures.puts
-    (then_put c.put-at.result c.put-at-2.result counts (reads ++ writes) c.put-at-2.ensures.ends c.put-at-2.ensures.puts
-    (then_put c.put-at-2.result c.put_rows-at.result reads writes (c.put_rows-at.ensures.ends ∙ ap (λ (k : ℕ). c.put-at-2.result + k) (sym lr)) c.put_rows-at.ensures.puts c.put_rows.ensures.puts)) in
-    let put = same_put (ap (λ (t : List ℕ). t ++ (counts ++ (reads ++ writes))) c.to_be_bytes.ensures) all in
-    let n : 6 + 9 * length rs + 8 * length ws ≡ 0 + length (big c.args.second ++ (counts ++ (reads ++ writes))) = omega arith in
-    (c.if-reads-gt4.false, c.if-writes-gt4.false, ap (λ (k : ℕ). take k c.put_rows.new.buf) n ∙ put.front)
+    let second : c.extend.new.self ≡ big c.args.second =
+    appended 74 c.to_be_bytes.result c.empty-bytes.result c.extend.new.self c.extend.result c.unwrap.result c.unwrap.ensures c.extend.ensures
+    ∙ (λ i. c.empty-bytes.ensures i ++ c.to_be_bytes.ensures i) in
+    let counted = appended 74 counts c.extend.new.self c.extend-2.new.self c.extend-2.result c.unwrap-2.result c.unwrap-2.ensures c.extend-2.ensures in
+    let reads = appended 74 c.as_slice.result.now c.extend-2.new.self c.extend-3.new.self c.extend-3.result c.unwrap-3.result c.unwrap-3.ensures c.extend-3.ensures in
+    let writes = appended 74 c.as_slice-2.result.now c.extend-3.new.self c.extend-4.new.self c.extend-4.result c.unwrap-4.result c.unwrap-4.ensures c.extend-4.ensures in
+    let laid_reads : c.as_slice.result.now ≡ laid reading rs = c.as_slice.ensures.items ∙ c.in_ok-read_bytes.ensures.1 in
+    let laid_writes : c.as_slice-2.result.now ≡ laid writing ws = c.as_slice-2.ensures.items ∙ c.in_ok-write_bytes.ensures.1 in (
+      omega arith,
+      omega arith,
+      writes ∙ (λ i. reads i ++ laid_writes i) ∙ (λ i. (counted i ++ laid_reads i) ++ laid writing ws) ∙ (λ i. ((second i ++ counts) ++ laid reading rs) ++ laid writing ws),
+    )

@@ -1,12 +1,13 @@
-use Rattle.layout.proofs.Tables.{key_met, key_not_met}
+use Rattle.std.proofs.Common.{not, ap, ◌∙◌}
+use Rattle.std.proofs.Math.Bool.{not-not}
+use Rattle.content.specs.Rules.{unlike, keys_of}
+use Rattle.content.proofs.Apart.{has_earlier}
 use Rattle.layout.proofs.row.key_is_new.Goals as goal
 
-pub returns-then-key : goal.returns-then-key
-returns-then-key g c =
-    key_met g.T.Row.layout c.args.rows.now c.args.i c.loop-j.j _ _ c.index-rows-i.result c.index-rows-j.result c.requires
-    c.loop-j-test.true c.index-rows-i.is c.index-rows-j.is c.key-key.ensures c.key.ensures c.if-key.true
-
-pub loop-j-preserved : goal.loop-j-preserved
-loop-j-preserved g c =
-    key_not_met g.T.Row.layout c.args.rows.now c.args.i c.loop-j.j _ _ c.index-rows-i.result c.index-rows-j.result c.requires
-    c.loop-j-test.true c.index-rows-i.is c.index-rows-j.is c.key-key.ensures c.key.ensures c.if-key.false c.loop-j.invariant
+pub returns : goal.returns
+returns g c =
+    let xs = c.args.rows.now in
+    let n = c.args.i in
+    let law = g.met.T.Row in
+    let e = has_earlier g.T.Keyed.key g.T.Blank.blank xs n c.index-rows-i.result c.key.result c.has_key.result c.requires c.index-rows-i.is c.key.ensures c.has_key.ensures in
+    ap not e ∙ not-not _ ∙ (λ i. unlike (keys_of (λ x. law.keyed x i) (law.blanks i) xs) (keys_of (λ x. law.keyed x i) (law.blanks i) xs n) n)

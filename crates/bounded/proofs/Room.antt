@@ -1,0 +1,22 @@
+-- What a push and an append leave where there is room.
+use Rattle.std.proofs.Common.{◌≡◌, ℕ, ◌+◌, ◌<◌, ◌≤◌, List, [], ◌∷◌, ◌++◌, length, true, false, Ok, Err, Result, ap, arith}
+use Rattle.std.specs.Result.{is_ok}
+use Rattle.std.proofs.lemmas.Bool.{true≢false, false≢true}
+use Rattle.bounded.specs.declared.Full.{Full}
+use Rattle.bounded.specs.Lists.{Pushed, Extended}
+
+pub pushed : {X : Type 0} (n : ℕ) (x : X) (xs xs' : List X) (r : Result (Unit {0}) X) → length xs < n → Pushed n x xs r xs' → xs' ≡ xs ++ x ∷ []
+pushed n x xs xs' (Ok u) h p = p.1
+pushed n x xs xs' (Err y) h p = let e = p.0 in absurd (omega arith)
+
+module _ {X : Type 0} (n : ℕ) (ys xs xs' : List X) where
+  pub extended : (r : Result (Unit {0}) Full) → is_ok r ≡ true → Extended n ys xs r xs' → (length xs + length ys ≤ n) × (xs' ≡ xs ++ ys)
+  extended (Ok u) e p = p
+  extended (Err f) e p = absurd (false≢true e)
+
+  pub not_extended : (r : Result (Unit {0}) Full) → is_ok r ≡ false → Extended n ys xs r xs' → n < length xs + length ys
+  not_extended (Ok u) e p = absurd (true≢false e)
+  not_extended (Err f) e p = p.0
+
+  pub appended : (r : Result (Unit {0}) Full) (u : Unit {0}) → r ≡ Ok u → Extended n ys xs r xs' → xs' ≡ xs ++ ys
+  appended r u e p = (extended r (ap is_ok e) p).1
