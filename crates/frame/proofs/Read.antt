@@ -8,9 +8,9 @@ use Rattle.field.proofs.Verdict.{never_both}
 use Rattle.layout.specs.declared.format.Header.{Header}
 use Rattle.frame.specs.declared.message.Parts.{Parts}
 use Rattle.frame.specs.declared.message.Message.{Message}
-use Rattle.layout.specs.Values.{Part, size}
+use Rattle.layout.specs.Values.{Part, flag, size}
 use Rattle.layout.specs.Numbers.{Layout, width, laid, rows_in, reading, writing}
-use Rattle.layout.specs.Format.{rules, header_fields, accepted_view_limits, content_limits, part_fields}
+use Rattle.layout.specs.Format.{rules, limits, header_fields, accepted_view_limits, content_limits, part_fields}
 use Rattle.layout.specs.Frames.{content_in, part_in, value_in, byte_fields}
 use Rattle.frame.specs.Messages.{part_of, content_of, value, PartsIn, PartsOf, Reads, Yields, OneFrame, Ruled}
 use Rattle.layout.proofs.Rows.{Bytes, drop_bytes, Exact, exact_read, exact_write, length_rows, laid_rows, rows_laid, rows_fit}
@@ -62,18 +62,19 @@ module _ (b : List ℕ) (f : Bytes b) where
       let o = whole_part (length b) (get_or b 6 0) (content_in b) (same_passes (length b) (ap (λ (x : Option Part). part_fields (get_or b 6 0) x) a) k) in
       ap Some (part_is p q.1 o.room) ∙ sym a
 
-pub told : (b : List ℕ) (o : Option Parts) → PartsOf b o → is_some o ≡ eqb (get_or b 12 0) 1
-told b None q = sym (ne_eqb (get_or b 12 0) 1 q)
-told b (Some p) q = sym (eq-eqb (get_or b 12 0) 1 q.0)
+-- what is held is announced
+pub told : (b : List ℕ) (o : Option Parts) → PartsOf b o → get_or b 12 0 ≤ 1 → get_or b 12 0 ≡ flag (content_of o)
+told b None q l = omega arith
+told b (Some p) q l = q.0
 
-pub ruled : (n k : ℕ) (h : Header) → Passes n (header_fields k h) → Ruled k h
-ruled n k h q = let r = q.1.1.1 in record {
-  known = (and_parts (leb 6 n) (rules k).known q.0).1;
-  view = in_limits n 8 h.view (rules k).view r.0;
-  code = in_limits n 9 h.code (rules k).code r.1.0;
-  accepted = in_limits n 10 h.accepted (rules k).accepted r.1.1.0;
+pub ruled : (n : ℕ) (h : Header) (k : ℕ) → Passes n (header_fields h k) → Ruled h k
+ruled n h k q = let r = q.1.1.1 in record {
+  known = (and_parts (leb 6 n) (is_some (rules h.kind)) q.0).1;
+  view = in_limits n 8 h.view (limits h).view r.0;
+  code = in_limits n 9 h.code (limits h).code r.1.0;
+  accepted = in_limits n 10 h.accepted (limits h).accepted r.1.1.0;
   accepted_view = in_limits n 11 h.accepted_view (accepted_view_limits h) r.1.1.1.0;
-  content = in_limits n 12 h.content (content_limits k h) r.1.1.1.1.0;
+  content = in_limits n 12 k (content_limits h) r.1.1.1.1.0;
 }
 
 pub one_frame : OneFrame

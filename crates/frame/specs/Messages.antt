@@ -1,5 +1,5 @@
 -- What each of the seven messages means, and what reading promises.
-use Rattle.std.specs.Prelude.{◌≡◌, ℕ, ◌+◌, ◌*◌, ◌/◌, ◌≤◌, true, List, length, take, drop, Some, None, Ok, Err, Option, Result, slice_index}
+use Rattle.std.specs.Prelude.{◌≡◌, ℕ, ◌+◌, ◌*◌, ◌/◌, ◌≤◌, true, List, length, take, drop, Some, None, Ok, Err, Option, Result, is_some, slice_index}
 use Rattle.values.specs.Numbers.{vote_number, outcome_number}
 use Rattle.values.specs.declared.decision.Proposal.{Proposal}
 use Rattle.values.specs.declared.refusal.Refusal.{Refusal}
@@ -10,7 +10,7 @@ use Rattle.frame.specs.declared.message.Message.{Message}
 use Rattle.frame.specs.declared.message.Message.TheVariants.{Prepare, Voted, Accept, Accepted, Decide, ChangeView, Report}
 use Rattle.layout.specs.Values.{Part, Value}
 use Rattle.layout.specs.Numbers.{number, rows_in, reading, writing}
-use Rattle.layout.specs.Format.{rules, accepted_view_limits, content_limits}
+use Rattle.layout.specs.Format.{rules, limits, accepted_view_limits, content_limits}
 use Rattle.layout.specs.Frames.{frame, Lawful, byte_fields}
 
 -- the content that the parts of a frame hold
@@ -34,34 +34,18 @@ abbrev pub accepted_view : Option Proposal → ℕ
 accepted_view None = 0
 accepted_view (Some p) = p.view
 
-abbrev pub numbers : ℕ → ℕ → ℕ → ℕ → ℕ → ℕ → ℕ → Option Part → Value
-numbers k t s w c a x o =
-    record { letter = k; transaction = t; sender = s; view = w; code = c; accepted = a; accepted_view = x; content = o }
+abbrev pub numbers : ℕ → ℕ → ℕ → ℕ → ℕ → ℕ → ℕ → Header
+numbers k t s w c a x = record { kind = k; transaction = t; sender = s; view = w; code = c; accepted = a; accepted_view = x }
 
--- what the numbers of a header mean with a content
-abbrev pub stated : ℕ → Header → Option Part → Value
-stated k h o =
-    numbers k h.transaction h.sender h.view h.code h.accepted h.accepted_view o
-
--- what a message means, its letter first
-abbrev pub value : Message → Value
-value (Prepare t s p) = numbers 80 t s 0 0 0 0 (Some (part_of p))
-value (Voted t s v) = numbers 86 t s 0 (vote_number (Some v)) 0 0 None
-value (Accept t s w d p) = numbers 65 t s w (outcome_number d) 0 0 (content_of p)
-value (Accepted t s w) = numbers 66 t s w 0 0 0 None
-value (Decide t s d p) = numbers 68 t s 0 (outcome_number d) 0 0 (content_of p)
-value (ChangeView t s w) = numbers 67 t s w 0 0 0 None
-value (Report t s w v a p) = numbers 82 t s w (vote_number v) (accepted_number a) (accepted_view a) (content_of p)
-
--- the parts are those of the bytes
-pub record PartsIn (b : List ℕ) (p : Parts) : Type 0 where
-  pub second : p.second ≡ number b 13
-  pub reads : p.reads.now ≡ take (9 * slice_index b 17) (drop 19 b)
-  pub writes : p.writes.now ≡ take (8 * slice_index b 18) (drop (19 + 9 * slice_index b 17) b)
-
-abbrev pub PartsOf : List ℕ → Option Parts → Type 0
-PartsOf b None = slice_index b 12 ≡ 1 → ⊥
-PartsOf b (Some p) = (slice_index b 12 ≡ 1) × PartsIn b p
+-- the letter and the numbers of a message
+abbrev pub header : Message → Header
+header (Prepare t s p) = numbers 80 t s 0 0 0 0
+header (Voted t s v) = numbers 86 t s 0 (vote_number (Some v)) 0 0
+header (Accept t s w d p) = numbers 65 t s w (outcome_number d) 0 0
+header (Accepted t s w) = numbers 66 t s w 0 0 0
+header (Decide t s d p) = numbers 68 t s 0 (outcome_number d) 0 0
+header (ChangeView t s w) = numbers 67 t s w 0 0 0
+header (Report t s w v a p) = numbers 82 t s w (vote_number v) (accepted_number a) (accepted_view a)
 
 -- the parts that a message holds
 abbrev pub parts : Message → Option Parts
@@ -72,6 +56,20 @@ parts (Accepted t s w) = None
 parts (Decide t s d p) = p
 parts (ChangeView t s w) = None
 parts (Report t s w v a p) = p
+
+-- what a message means
+abbrev pub value : Message → Value
+value m = record { header = header m; content = content_of (parts m) }
+
+-- the parts are those of the bytes
+pub record PartsIn (b : List ℕ) (p : Parts) : Type 0 where
+  pub second : p.second ≡ number b 13
+  pub reads : p.reads.now ≡ take (9 * slice_index b 17) (drop 19 b)
+  pub writes : p.writes.now ≡ take (8 * slice_index b 18) (drop (19 + 9 * slice_index b 17) b)
+
+abbrev pub PartsOf : List ℕ → Option Parts → Type 0
+PartsOf b None = slice_index b 12 ≡ 1 → ⊥
+PartsOf b (Some p) = (slice_index b 12 ≡ 1) × PartsIn b p
 
 -- what reading bytes answers: the one message whose frame they are, holding the parts of these bytes, or the first fault
 abbrev pub Reads : List ℕ → Result Message Refusal → Type 0
@@ -91,14 +89,14 @@ Yields b r = (v : Value) → Lawful v → b ≡ frame v → Answers r v
 abbrev pub OneFrame : Type 0
 OneFrame = (v w : Value) → Lawful v → Lawful w → frame v ≡ frame w → v ≡ w
 
--- a header that obeys its rules
+-- a header and a flag that obey their rules
 abbrev pub Within : ℕ × ℕ → ℕ → Type 0
 Within l x = (l.0 ≤ x) × (x ≤ l.1)
 
-pub record Ruled (k : ℕ) (h : Header) : Type 0 where
-  pub known : (rules k).known ≡ true
-  pub view : Within (rules k).view h.view
-  pub code : Within (rules k).code h.code
-  pub accepted : Within (rules k).accepted h.accepted
+pub record Ruled (h : Header) (flag : ℕ) : Type 0 where
+  pub known : is_some (rules h.kind) ≡ true
+  pub view : Within (limits h).view h.view
+  pub code : Within (limits h).code h.code
+  pub accepted : Within (limits h).accepted h.accepted
   pub accepted_view : Within (accepted_view_limits h) h.accepted_view
-  pub content : Within (content_limits k h) h.content
+  pub content : Within (content_limits h) flag

@@ -1,9 +1,7 @@
 // The seven messages.
 
 ghost use Rattle.std.specs.Prelude.{◌≡◌};
-ghost use Rattle.layout.specs.Format.{header};
-ghost use Rattle.layout.specs.Values.{flag};
-ghost use Rattle.frame.specs.Messages.{value, parts, content_of, accepted_number, accepted_view};
+ghost use Rattle.frame.specs.Messages.{header, parts};
 
 use layout::format::Header;
 use values::decision::{Outcome, Proposal, Vote};
@@ -94,7 +92,7 @@ impl<'a> Parts<'a> {
 impl<'a> Message<'a> {
     // The letter of the kind.
     pub fn kind(&self) -> char
-        ensures { result ≡ (value self.now).letter }
+        ensures { result ≡ (header self.now).kind }
     {
         match self {
             Message::Prepare { .. } => 'P',
@@ -120,18 +118,18 @@ impl<'a> Message<'a> {
         }
     }
 
-    // The numbers between the kind and the content.
+    // The letter of the kind, and the numbers between it and the content.
     pub fn header(&self) -> Header
-        ensures { result ≡ header (value self.now) }
+        ensures { result ≡ header self.now }
     {
         let none = Header {
+            kind: self.kind(),
             transaction: 0,
             sender: 0,
             view: 0,
             code: 0,
             accepted: 0,
             accepted_view: 0,
-            content: 0,
         };
         match *self {
             Message::Prepare {
@@ -141,7 +139,6 @@ impl<'a> Message<'a> {
             } => Header {
                 transaction,
                 sender,
-                content: 1,
                 ..none
             },
             Message::Voted {
@@ -159,13 +156,12 @@ impl<'a> Message<'a> {
                 sender,
                 view,
                 outcome,
-                content,
+                ..
             } => Header {
                 transaction,
                 sender,
                 view,
                 code: outcome.number(),
-                content: flag_of(content),
                 ..none
             },
             Message::Accepted {
@@ -182,12 +178,11 @@ impl<'a> Message<'a> {
                 transaction,
                 sender,
                 outcome,
-                content,
+                ..
             } => Header {
                 transaction,
                 sender,
                 code: outcome.number(),
-                content: flag_of(content),
                 ..none
             },
             Message::ChangeView {
@@ -206,44 +201,16 @@ impl<'a> Message<'a> {
                 view,
                 vote,
                 accepted,
-                content,
+                ..
             } => Header {
                 transaction,
                 sender,
                 view,
                 code: Vote::number(vote),
-                accepted: accepted_number(accepted),
-                accepted_view: accepted_view(accepted),
-                content: flag_of(content),
+                accepted: accepted.map_or(0, |proposal| proposal.outcome.number()),
+                accepted_view: accepted.map_or(0, |proposal| proposal.view),
+                ..none
             },
         }
-    }
-}
-
-// 1 where a content follows.
-fn flag_of(content: Option<Parts<'_>>) -> u32
-    ensures { result ≡ flag (content_of content.entry) }
-{
-    match content {
-        None => 0,
-        Some(_) => 1,
-    }
-}
-
-fn accepted_number(accepted: Option<Proposal>) -> u32
-    ensures { result ≡ accepted_number accepted }
-{
-    match accepted {
-        None => 0,
-        Some(proposal) => proposal.outcome.number(),
-    }
-}
-
-fn accepted_view(accepted: Option<Proposal>) -> u32
-    ensures { result ≡ accepted_view accepted }
-{
-    match accepted {
-        None => 0,
-        Some(proposal) => proposal.view,
     }
 }

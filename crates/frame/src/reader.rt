@@ -1,13 +1,13 @@
 // Reading a frame.
 
-ghost use Rattle.std.specs.Prelude.{◌≡◌, ◌+◌, ◌*◌, ◌≤◌, ◌++◌, length, drop, is_some, Some, ◌==◌, slice_index};
+ghost use Rattle.std.specs.Prelude.{◌≡◌, ◌+◌, ◌*◌, ◌≤◌, ◌++◌, length, drop, Some, slice_index};
 ghost use Rattle.values.specs.Numbers.{vote_number, outcome_number};
 ghost use Rattle.field.specs.Layouts.{Checked, Checking};
-ghost use Rattle.layout.specs.Values.{size};
+ghost use Rattle.layout.specs.Values.{flag, size};
 ghost use Rattle.layout.specs.Numbers.{reading, writing, rows_in};
 ghost use Rattle.layout.specs.Format.{header_fields, content_fields, part_fields};
 ghost use Rattle.layout.specs.Frames.{header_in, content_in, part_in, mark_fields, ending};
-ghost use Rattle.frame.specs.Messages.{value, accepted_number, accepted_view, content_of, Ruled, PartsIn, PartsOf, Reads, Yields, OneFrame, stated, parts};
+ghost use Rattle.frame.specs.Messages.{header, accepted_number, accepted_view, content_of, Ruled, PartsIn, PartsOf, Reads, Yields, OneFrame, parts};
 
 use crate::message::{Message, Parts};
 use content::rows::{Read, Write};
@@ -34,13 +34,13 @@ fn header_of(bytes: &[u8]) -> Header
     ensures { result ≡ header_in bytes.now }
 {
     Header {
+        kind: char::from(byte_at(bytes, 5)),
         transaction: u32::from(byte_at(bytes, 6)),
         sender: u32::from(byte_at(bytes, 7)),
         view: u32::from(byte_at(bytes, 8)),
         code: u32::from(byte_at(bytes, 9)),
         accepted: u32::from(byte_at(bytes, 10)),
         accepted_view: u32::from(byte_at(bytes, 11)),
-        content: u32::from(byte_at(bytes, 12)),
     }
 }
 
@@ -67,20 +67,14 @@ fn check_rows_at(
     )
 }
 
-// Checks the content, of which the header says that it follows.
-fn check_content_at(
-    bytes: &[u8],
-    reads: usize,
-    writes: usize,
-    transaction: u32,
-) -> Result<(), Refusal>
+// Checks the content, of which the flag says that it follows.
+fn check_content_at(bytes: &[u8], reads: usize, writes: usize) -> Result<(), Refusal>
     requires reads_there { reads ≡ slice_index bytes.now 17 }
     requires writes_there { writes ≡ slice_index bytes.now 18 }
-    requires transaction_there { transaction ≡ slice_index bytes.now 6 }
     ensures { Checked (length bytes.now) (part_fields (slice_index bytes.now 6) (Some (content_in bytes.now))) result }
 {
     check(&count_fields(reads, writes), bytes.len())?;
-    let timestamp = Timestamp::new(number_at(bytes, 13), transaction);
+    let timestamp = Timestamp::new(number_at(bytes, 13), u32::from(byte_at(bytes, 6)));
     check_rows_at(bytes, reads, writes, timestamp)
 }
 
@@ -99,29 +93,28 @@ fn parts_at(bytes: &[u8], reads: usize, writes: usize) -> Parts<'_>
     }
 }
 
-// The kind and the numbers of the header.
-fn read_header(bytes: &[u8]) -> Result<(char, Header), Refusal>
+// The header, whose rules hold of it and of the content's flag behind it.
+fn read_header(bytes: &[u8]) -> Result<Header, Refusal>
     ensures { let b = bytes.now in
-        Checking (length b) (mark_fields b ++ header_fields (slice_index b 5) (header_in b)) (λ h. h ≡ (slice_index b 5, header_in b)) result }
+        Checking (length b) (mark_fields b ++ header_fields (header_in b) (slice_index b 12)) (λ h. h ≡ header_in b) result }
 {
-    let rest = read_mark(bytes)?;
-    let kind = char::from(byte_at(rest, 0));
+    read_mark(bytes)?;
     let header = header_of(bytes);
-    check(&header_fields(kind, &header), bytes.len())?;
-    Ok((kind, header))
+    let flag = u32::from(byte_at(bytes, 12));
+    check(&header_fields(&header, flag), bytes.len())?;
+    Ok(header)
 }
 
-// The content, which is there exactly if the header says so.
-fn read_content<'a>(bytes: &'a [u8], header: &Header) -> Result<Option<Parts<'a>>, Refusal>
-    requires { header.now ≡ header_in bytes.now }
+// The content, which is there exactly if the flag says so.
+fn read_content(bytes: &[u8]) -> Result<Option<Parts<'_>>, Refusal>
     ensures { Checking (length bytes.now) (part_fields (slice_index bytes.now 6) (part_in bytes.now)) (λ o. PartsOf bytes.now o) result }
 {
-    if header.content != 1 {
+    if byte_at(bytes, 12) != 1 {
         return Ok(None);
     }
     let reads = byte_at(bytes, 17) as usize;
     let writes = byte_at(bytes, 18) as usize;
-    check_content_at(bytes, reads, writes, header.transaction)?;
+    check_content_at(bytes, reads, writes)?;
     Ok(Some(parts_at(bytes, reads, writes)))
 }
 
@@ -168,11 +161,10 @@ fn accepted_of(number: u32, view: u32) -> Option<Proposal>
 }
 
 // Where the frame ends.
-fn end_of(bytes: &[u8], header: &Header) -> usize
-    requires { header.now ≡ header_in bytes.now }
+fn end_of(bytes: &[u8]) -> usize
     ensures { result ≡ size (part_in bytes.now) }
 {
-    if header.content == 1 {
+    if byte_at(bytes, 12) == 1 {
         19 + 9 * byte_at(bytes, 17) as usize + 8 * byte_at(bytes, 18) as usize
     } else {
         13
@@ -190,21 +182,20 @@ fn end_field(length: usize, end: usize) -> Field
     }
 }
 
-// The message of a header that obeys its rules.
-fn message_of<'a>(kind: char, header: &Header, content: Option<Parts<'a>>) -> Message<'a>
-    requires ruled { Ruled kind header.now }
-    requires told { is_some content ≡ (header.now.content == 1) }
-    ensures means { value result ≡ stated kind header.now (content_of content.entry) }
+// The message of a header that obeys its rules with this content.
+fn message_of<'a>(header: &Header, content: Option<Parts<'a>>) -> Message<'a>
+    requires { Ruled header.now (flag (content_of content.entry)) }
+    ensures means { header result ≡ header.now }
     ensures holds { parts result ≡ content.entry }
 {
     let Header {
+        kind,
         transaction,
         sender,
         view,
         code,
         accepted,
         accepted_view,
-        ..
     } = *header;
     match (kind, content) {
         ('P', Some(content)) => Message::Prepare {
@@ -257,11 +248,11 @@ fn message_of<'a>(kind: char, header: &Header, content: Option<Parts<'a>>) -> Me
 fn read(bytes: &[u8]) -> Result<Message<'_>, Refusal>
     ensures { Reads bytes.now result }
 {
-    let (kind, header) = read_header(bytes)?;
-    let content = read_content(bytes, &header)?;
-    let end = end_field(bytes.len(), end_of(bytes, &header));
+    let header = read_header(bytes)?;
+    let content = read_content(bytes)?;
+    let end = end_field(bytes.len(), end_of(bytes));
     check(&[end], bytes.len())?;
-    Ok(message_of(kind, &header, content))
+    Ok(message_of(&header, content))
 }
 
 // Reads bytes as a frame: the message holds parts of these very bytes.

@@ -7,25 +7,15 @@ use Rattle.field.specs.declared.Field.{Field}
 use Rattle.field.specs.Layouts.{Passes}
 use Rattle.field.proofs.Faults.{pass_first, pass_last, pass_both, pass_whole, Ends, ends_both}
 use Rattle.field.proofs.Rows.{rows_end}
-use Rattle.layout.specs.Values.{Part, Value, size}
+use Rattle.layout.specs.Values.{Part, Value, flag, size}
 use Rattle.layout.specs.Numbers.{Layout, width, laid, rows_in, reading, writing}
-use Rattle.layout.specs.Format.{header_fields, count_fields, row_fields, table_fields, part_fields, header}
+use Rattle.layout.specs.Format.{header_fields, count_fields, row_fields, table_fields, part_fields}
 use Rattle.layout.specs.Frames.{frame, FitsPart, Lawful, part_in, value_in, mark_fields, byte_fields}
 use Rattle.layout.proofs.Rows.{number_big, exact_read, exact_write, rows_laid, length_laid}
 
 -- the message with another content
 abbrev with_content : Value → Option Part → Value
-with_content v o =
-    record {
-      letter = v.letter;
-      transaction = v.transaction;
-      sender = v.sender;
-      view = v.view;
-      code = v.code;
-      accepted = v.accepted;
-      accepted_view = v.accepted_view;
-      content = o;
-    }
+with_content v o = record { header = v.header; content = o }
 
 part_back : (v : Value) (o : Option Part) → FitsPart o → part_in (frame (with_content v o)) ≡ o
 part_back v None f = refl
@@ -39,17 +29,7 @@ part_back v (Some p) f =
 
 -- the message that stands in its frame
 pub value_back : (v : Value) → Lawful v → value_in (frame v) ≡ v
-value_back v l =
-    λ i. record {
-      letter = v.letter;
-      transaction = v.transaction;
-      sender = v.sender;
-      view = v.view;
-      code = v.code;
-      accepted = v.accepted;
-      accepted_view = v.accepted_view;
-      content = part_back v v.content l.fits i;
-    }
+value_back v l = λ i. record { header = v.header; content = part_back v v.content l.fits i }
 
 pub frame_length : (v : Value) (o : Option Part) → length (frame (with_content v o)) ≡ size o
 frame_length v None = refl
@@ -90,19 +70,20 @@ pub frame_passes : (v : Value) → Lawful v → Passes (length (frame v)) (byte_
 frame_passes v l =
     let b = frame v in
     let o = v.content in
+    let t = v.header.transaction in
     let n = size o in
     let h = long o in
     let e : part_in b ≡ o = part_back v o l.fits in
     let len : length b ≡ n = frame_length v o in
-    let k : List Field = header_fields v.letter (header v) in
-    let qh : Passes n k = pass_whole 87 n k (omega arith, (omega arith, (omega arith, (omega arith, (omega arith, (omega arith, (omega arith, (omega arith, tt)))))))) (pass_first 87 k (part_fields v.transaction o) l.passes) in
-    let qp : Passes n (part_fields v.transaction o) = pass_whole 87 n (part_fields v.transaction o) (part_ends v.transaction o) (pass_last 87 k (part_fields v.transaction o) l.passes) in
+    let k : List Field = header_fields v.header (flag o) in
+    let qh : Passes n k = pass_whole 87 n k (omega arith, (omega arith, (omega arith, (omega arith, (omega arith, (omega arith, (omega arith, (omega arith, tt)))))))) (pass_first 87 k (part_fields t o) l.passes) in
+    let qp : Passes n (part_fields t o) = pass_whole 87 n (part_fields t o) (part_ends t o) (pass_last 87 k (part_fields t o) l.passes) in
     let here : leb (n + 0) n ≡ true = le-leb _ _ (omega arith) in
     let room : leb n n ≡ true = le-leb _ _ (omega arith) in
     let three : leb 3 n ≡ true = le-leb _ _ (omega arith) in
     let five : leb 5 n ≡ true = le-leb _ _ (omega arith) in
-    let all : Passes n (mark_fields b ++ (k ++ (part_fields v.transaction o ++ (record { place = n; width = 0; good = leb n n } ∷ [])))) =
-    (rw three refl, (rw five refl, pass_both n k (part_fields v.transaction o ++ (record { place = n; width = 0; good = leb n n } ∷ [])) qh (pass_both n (part_fields v.transaction o) (record { place = n; width = 0; good = leb n n } ∷ []) qp (rw (here, room) refl, tt)))) in
-    let same : Passes n (mark_fields b ++ (k ++ (part_fields v.transaction (part_in b) ++ (record { place = size (part_in b); width = 0; good = leb n (size (part_in b)) } ∷ [])))) =
-    subst (λ (x : Option Part). Passes n (mark_fields b ++ (k ++ (part_fields v.transaction x ++ (record { place = size x; width = 0; good = leb n (size x) } ∷ []))))) (sym e) all in
-    subst (λ (m : ℕ). Passes m (mark_fields b ++ (k ++ (part_fields v.transaction (part_in b) ++ (record { place = size (part_in b); width = 0; good = leb m (size (part_in b)) } ∷ []))))) (sym len) same
+    let all : Passes n (mark_fields b ++ (k ++ (part_fields t o ++ (record { place = n; width = 0; good = leb n n } ∷ [])))) =
+    (rw three refl, (rw five refl, pass_both n k (part_fields t o ++ (record { place = n; width = 0; good = leb n n } ∷ [])) qh (pass_both n (part_fields t o) (record { place = n; width = 0; good = leb n n } ∷ []) qp (rw (here, room) refl, tt)))) in
+    let same : Passes n (mark_fields b ++ (k ++ (part_fields t (part_in b) ++ (record { place = size (part_in b); width = 0; good = leb n (size (part_in b)) } ∷ [])))) =
+    subst (λ (x : Option Part). Passes n (mark_fields b ++ (k ++ (part_fields t x ++ (record { place = size x; width = 0; good = leb n (size x) } ∷ []))))) (sym e) all in
+    subst (λ (m : ℕ). Passes m (mark_fields b ++ (k ++ (part_fields t (part_in b) ++ (record { place = size (part_in b); width = 0; good = leb m (size (part_in b)) } ∷ []))))) (sym len) same

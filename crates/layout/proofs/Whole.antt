@@ -1,5 +1,5 @@
 -- Bytes whose fields all pass are the frame of the message that stands in them.
-use Rattle.std.proofs.Common.{◌≡◌, ℕ, zero, suc, ◌+◌, ◌*◌, ◌≤◌, Bool, true, false, cond, ◌||◌, eqb, leb, List, [], ◌∷◌, ◌++◌, length, get_or, take, drop, Some, None, sym, refl, ap, ◌∙◌, subst, mul-zero, mul-suc, arith, length-drop, take-append-drop, get_or-drop, take_all, drop-drop, eqb-true, leb-true}
+use Rattle.std.proofs.Common.{◌≡◌, ℕ, zero, suc, ◌+◌, ◌*◌, ◌≤◌, Bool, true, false, cond, ◌||◌, eqb, leb, List, [], ◌∷◌, ◌++◌, length, get_or, take, drop, Some, None, Option, unwrap_or, sym, refl, ap, ◌∙◌, subst, mul-zero, mul-suc, arith, length-drop, take-append-drop, get_or-drop, take_all, drop-drop, eqb-true, leb-true}
 use mathlib.Core.Path.{fun_ext}
 use borrow.Author.Tests.{eqb-false}
 use Rattle.std.proofs.lemmas.List.{drop_all}
@@ -12,7 +12,7 @@ use Rattle.layout.specs.declared.format.KindRules.{KindRules}
 use Rattle.layout.specs.declared.format.Header.{Header}
 use Rattle.layout.specs.Values.{Part, flag, size}
 use Rattle.layout.specs.Numbers.{Layout, width, laid, rows_in, reading, writing}
-use Rattle.layout.specs.Format.{rules, content_limits, header_fields, count_fields, row_fields, table_fields, part_fields, header}
+use Rattle.layout.specs.Format.{rules, no_kind, limits, content_limits, header_fields, count_fields, row_fields, table_fields, part_fields}
 use Rattle.layout.specs.Frames.{frame, part_bytes, FitsPart, Lawful, header_in, content_in, part_in, value_in, mark_fields, end_field, byte_fields}
 use Rattle.layout.proofs.Rows.{Bytes, drop_bytes, listed, firsts, big_number, number_fits, exact_read, exact_write, length_rows, laid_rows, rows_fit}
 
@@ -21,19 +21,19 @@ cond_both P true a b h k = h
 cond_both P false a b h k = k
 
 -- a content's flag is at most 1, whatever the kind
-record Flags (r : KindRules) : Type 0 where
-  plain : r.plain.1 ≤ 1
-  commit : r.commit.1 ≤ 1
+record Flags (o : Option KindRules) : Type 0 where
+  plain : (unwrap_or o no_kind).plain.1 ≤ 1
+  commit : (unwrap_or o no_kind).commit.1 ≤ 1
 
 flags : (k : ℕ) → Flags (rules k)
 flags k =
-    let low : (v c a p m : ℕ × ℕ) → p.1 ≤ 1 → m.1 ≤ 1 → (n : Bool) → Flags (record { known = n; view = v; code = c; accepted = a; plain = p; commit = m }) = λ v c a p m x y n. record { plain = x; commit = y } in
-    kind 80 (low _ _ _ (1, 1) (1, 1) (omega arith) (omega arith) true) (kind 86 (low _ _ _ (0, 0) (0, 0) (omega arith) (omega arith) true)
-    (kind 65 (low _ _ _ (0, 0) (1, 1) (omega arith) (omega arith) true) (kind 66 (low _ _ _ (0, 0) (0, 0) (omega arith) (omega arith) true)
-    (kind 68 (low _ _ _ (0, 0) (1, 1) (omega arith) (omega arith) true) (kind 67 (low _ _ _ (0, 0) (0, 0) (omega arith) (omega arith) true)
-    (kind 82 (low _ _ _ (0, 1) (1, 1) (omega arith) (omega arith) true) (low _ _ _ (0, 0) (0, 0) (omega arith) (omega arith) false)))))))
+    let low : (v c a p m : ℕ × ℕ) → p.1 ≤ 1 → m.1 ≤ 1 → Flags (Some (record { view = v; code = c; accepted = a; plain = p; commit = m })) = λ v c a p m x y. record { plain = x; commit = y } in
+    kind 80 (low _ _ _ (1, 1) (1, 1) (omega arith) (omega arith)) (kind 86 (low _ _ _ (0, 0) (0, 0) (omega arith) (omega arith))
+    (kind 65 (low _ _ _ (0, 0) (1, 1) (omega arith) (omega arith)) (kind 66 (low _ _ _ (0, 0) (0, 0) (omega arith) (omega arith))
+    (kind 68 (low _ _ _ (0, 0) (1, 1) (omega arith) (omega arith)) (kind 67 (low _ _ _ (0, 0) (0, 0) (omega arith) (omega arith))
+    (kind 82 (low _ _ _ (0, 1) (1, 1) (omega arith) (omega arith)) (record { plain = omega arith; commit = omega arith })))))))
   where
-    kind : (l : ℕ) {a b : KindRules} → Flags a → Flags b → Flags (cond (eqb k l) a b)
+    kind : (l : ℕ) {a b : Option KindRules} → Flags a → Flags b → Flags (cond (eqb k l) a b)
     kind l {a} {b} h g = cond_both Flags (eqb k l) a b h g
 
 pub in_limits : (n p x : ℕ) (l : ℕ × ℕ) → holds n (ranged p x l) ≡ true → (l.0 ≤ x) × (x ≤ l.1)
@@ -41,10 +41,10 @@ in_limits n p x l h =
     let q = and_parts (leb l.0 x) (leb x l.1) (and_parts (leb (p + 1) n) _ h).1 in
     (leb-true _ _ q.0, leb-true _ _ q.1)
 
-pub flag_limit : (n k : ℕ) (h : Header) → Passes n (header_fields k h) → h.content ≤ 1
-flag_limit n k h q =
-    let l = (in_limits n 12 h.content (content_limits k h) q.1.1.1.1.1.1.1.0).1 in
-    let c : (content_limits k h).1 ≤ 1 = cond_both (λ (m : ℕ × ℕ). m.1 ≤ 1) (eqb h.code 2 || eqb h.accepted 2) (rules k).commit (rules k).plain (flags k).commit (flags k).plain in
+pub flag_limit : (n : ℕ) (h : Header) (k : ℕ) → Passes n (header_fields h k) → k ≤ 1
+flag_limit n h k q =
+    let l = (in_limits n 12 k (content_limits h) q.1.1.1.1.1.1.1.0).1 in
+    let c : (content_limits h).1 ≤ 1 = cond_both (λ (m : ℕ × ℕ). m.1 ≤ 1) (eqb h.code 2 || eqb h.accepted 2) (limits h).commit (limits h).plain (flags h.kind).commit (flags h.kind).plain in
     omega arith
 
 -- the next n bytes from place p on, one by one
@@ -124,16 +124,16 @@ module _ (b : List ℕ) (f : Bytes b) where
 
 module _ (b : List ℕ) (f : Bytes b) (q : Passes (length b) (byte_fields b)) where
   mark_passes : Passes (length b) (mark_fields b)
-  mark_passes = pass_first (length b) (mark_fields b) (header_fields (get_or b 5 0) (header_in b) ++ (part_fields (get_or b 6 0) (part_in b) ++ (end_field b ∷ []))) q
+  mark_passes = pass_first (length b) (mark_fields b) (header_fields (header_in b) (get_or b 12 0) ++ (part_fields (get_or b 6 0) (part_in b) ++ (end_field b ∷ []))) q
 
-  after_mark : Passes (length b) (header_fields (get_or b 5 0) (header_in b) ++ (part_fields (get_or b 6 0) (part_in b) ++ (end_field b ∷ [])))
-  after_mark = pass_last (length b) (mark_fields b) (header_fields (get_or b 5 0) (header_in b) ++ (part_fields (get_or b 6 0) (part_in b) ++ (end_field b ∷ []))) q
+  after_mark : Passes (length b) (header_fields (header_in b) (get_or b 12 0) ++ (part_fields (get_or b 6 0) (part_in b) ++ (end_field b ∷ [])))
+  after_mark = pass_last (length b) (mark_fields b) (header_fields (header_in b) (get_or b 12 0) ++ (part_fields (get_or b 6 0) (part_in b) ++ (end_field b ∷ []))) q
 
-  header_passes : Passes (length b) (header_fields (get_or b 5 0) (header_in b))
-  header_passes = pass_first (length b) (header_fields (get_or b 5 0) (header_in b)) (part_fields (get_or b 6 0) (part_in b) ++ (end_field b ∷ [])) after_mark
+  header_passes : Passes (length b) (header_fields (header_in b) (get_or b 12 0))
+  header_passes = pass_first (length b) (header_fields (header_in b) (get_or b 12 0)) (part_fields (get_or b 6 0) (part_in b) ++ (end_field b ∷ [])) after_mark
 
   after_header : Passes (length b) (part_fields (get_or b 6 0) (part_in b) ++ (end_field b ∷ []))
-  after_header = pass_last (length b) (header_fields (get_or b 5 0) (header_in b)) (part_fields (get_or b 6 0) (part_in b) ++ (end_field b ∷ [])) after_mark
+  after_header = pass_last (length b) (header_fields (header_in b) (get_or b 12 0)) (part_fields (get_or b 6 0) (part_in b) ++ (end_field b ∷ [])) after_mark
 
   part_passes : Passes (length b) (part_fields (get_or b 6 0) (part_in b))
   part_passes = pass_first (length b) (part_fields (get_or b 6 0) (part_in b)) (end_field b ∷ []) after_header
@@ -142,7 +142,7 @@ module _ (b : List ℕ) (f : Bytes b) (q : Passes (length b) (byte_fields b)) wh
   ends = leb-true _ _ (and_parts (leb (size (part_in b) + 0) (length b)) (leb (length b) (size (part_in b))) (pass_last (length b) (part_fields (get_or b 6 0) (part_in b)) (end_field b ∷ []) after_header).0).1
 
   flagged : flag (part_in b) ≡ get_or b 12 0
-  flagged = flag_is b f (eqb (get_or b 12 0) 1) refl (flag_limit (length b) (get_or b 5 0) (header_in b) header_passes)
+  flagged = flag_is b f (eqb (get_or b 12 0) 1) refl (flag_limit (length b) (header_in b) (get_or b 12 0) header_passes)
 
   -- the bytes are the frame of what stands in them
   pub whole : b ≡ frame (value_in b)
@@ -156,7 +156,7 @@ module _ (b : List ℕ) (f : Bytes b) (q : Passes (length b) (byte_fields b)) wh
       let e2 = eqb-true (get_or b 2 0) 0x41 (and_parts _ _ z.1).1 in
       let e3 = eqb-true (get_or b 3 0) 0 (and_parts _ _ y).0 in
       let e4 = eqb-true (get_or b 4 0) 1 (and_parts _ _ y).1 in
-      let far : 13 ≤ length b = reach (length b) (ranged 12 (get_or b 12 0) (content_limits (get_or b 5 0) (header_in b))) header_passes.1.1.1.1.1.1.1.0 in
+      let far : 13 ≤ length b = reach (length b) (ranged 12 (get_or b 12 0) (content_limits (header_in b))) header_passes.1.1.1.1.1.1.1.0 in
       next 13 0 b (omega arith)
       ∙ (λ i. e0 i ∷ e1 i ∷ e2 i ∷ e3 i ∷ e4 i ∷ get_or b 5 0 ∷ get_or b 6 0 ∷ get_or b 7 0 ∷ get_or b 8 0 ∷ get_or b 9 0 ∷ get_or b 10 0 ∷ get_or b 11 0 ∷ sym flagged i ∷ sym (tail_is b f (eqb (get_or b 12 0) 1) part_passes ends) i)
 
@@ -166,17 +166,9 @@ module _ (b : List ℕ) (f : Bytes b) (q : Passes (length b) (byte_fields b)) wh
       let t = eqb (get_or b 12 0) 1 in
       let n = at_most b f t part_passes in
       let l : length b ≤ 87 = omega (arith, ends) in
-      let k = get_or b 5 0 in
-      let same : header_in b ≡ header (value_in b) = λ i. record {
-        transaction = get_or b 6 0;
-        sender = get_or b 7 0;
-        view = get_or b 8 0;
-        code = get_or b 9 0;
-        accepted = get_or b 10 0;
-        accepted_view = get_or b 11 0;
-        content = sym flagged i;
-      } in
+      let header = header_fields (header_in b) in
+      let part = part_fields (get_or b 6 0) (part_in b) in
       record {
-        passes = pass_both 87 (header_fields k (header (value_in b))) (part_fields (get_or b 6 0) (part_in b)) (subst (λ (h : Header). Passes 87 (header_fields k h)) same (pass_longer (length b) 87 l (header_fields k (header_in b)) header_passes)) (pass_longer (length b) 87 l (part_fields (get_or b 6 0) (part_in b)) part_passes);
+        passes = pass_both 87 (header (flag (part_in b))) part (subst (λ (k : ℕ). Passes 87 (header k)) (sym flagged) (pass_longer (length b) 87 l (header (get_or b 12 0)) header_passes)) (pass_longer (length b) 87 l part part_passes);
         fits = part_fits b f t;
       }

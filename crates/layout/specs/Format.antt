@@ -1,5 +1,5 @@
 -- The fields of a frame in their order, each with the rule of its number given the ones before it.
-use Rattle.std.specs.Prelude.{ℕ, ◌+◌, ◌*◌, Bool, true, false, cond, ◌&&◌, ◌||◌, List, [], ◌∷◌, ◌++◌, length, Some, None, Option, ◌==◌, nat_le, slice_index_or}
+use Rattle.std.specs.Prelude.{ℕ, ◌+◌, ◌*◌, Bool, true, cond, ◌&&◌, ◌||◌, List, [], ◌∷◌, ◌++◌, length, Some, None, Option, is_some, unwrap_or, ◌==◌, nat_le, slice_index_or}
 use Rattle.values.specs.declared.timestamp.Timestamp.{Timestamp}
 use Rattle.values.specs.Times.{timestamp}
 use Rattle.content.specs.declared.rows.Read.{Read}
@@ -14,34 +14,42 @@ use Rattle.layout.specs.Values.{Part, Value, flag}
 
 -- the seven kinds by their letters P V A B D C R, each with its limits: view, code, accepted, and the content's flag
 -- where nothing of the frame is a commit, and where something is
-abbrev pub rules : ℕ → KindRules
+abbrev pub rules : ℕ → Option KindRules
 rules k =
-    cond (k == 80) (record { known = true; view = (0, 0); code = (0, 0); accepted = (0, 0); plain = (1, 1); commit = (1, 1) })
-    (cond (k == 86) (record { known = true; view = (0, 0); code = (1, 2); accepted = (0, 0); plain = (0, 0); commit = (0, 0) })
-    (cond (k == 65) (record { known = true; view = (0, 255); code = (1, 2); accepted = (0, 0); plain = (0, 0); commit = (1, 1) })
-    (cond (k == 66) (record { known = true; view = (0, 255); code = (0, 0); accepted = (0, 0); plain = (0, 0); commit = (0, 0) })
-    (cond (k == 68) (record { known = true; view = (0, 0); code = (1, 2); accepted = (0, 0); plain = (0, 0); commit = (1, 1) })
-    (cond (k == 67) (record { known = true; view = (1, 255); code = (0, 0); accepted = (0, 0); plain = (0, 0); commit = (0, 0) })
-    (cond (k == 82) (record { known = true; view = (1, 255); code = (0, 2); accepted = (0, 2); plain = (0, 1); commit = (1, 1) })
-    (record { known = false; view = (0, 0); code = (0, 0); accepted = (0, 0); plain = (0, 0); commit = (0, 0) })))))))
+    cond (k == 80) (Some (record { view = (0, 0); code = (0, 0); accepted = (0, 0); plain = (1, 1); commit = (1, 1) }))
+    (cond (k == 86) (Some (record { view = (0, 0); code = (1, 2); accepted = (0, 0); plain = (0, 0); commit = (0, 0) }))
+    (cond (k == 65) (Some (record { view = (0, 255); code = (1, 2); accepted = (0, 0); plain = (0, 0); commit = (1, 1) }))
+    (cond (k == 66) (Some (record { view = (0, 255); code = (0, 0); accepted = (0, 0); plain = (0, 0); commit = (0, 0) }))
+    (cond (k == 68) (Some (record { view = (0, 0); code = (1, 2); accepted = (0, 0); plain = (0, 0); commit = (1, 1) }))
+    (cond (k == 67) (Some (record { view = (1, 255); code = (0, 0); accepted = (0, 0); plain = (0, 0); commit = (0, 0) }))
+    (cond (k == 82) (Some (record { view = (1, 255); code = (0, 2); accepted = (0, 2); plain = (0, 1); commit = (1, 1) }))
+    None))))))
+
+-- what a letter that names no kind leaves to the numbers: 0 alone
+abbrev pub no_kind : KindRules
+no_kind = record { view = (0, 0); code = (0, 0); accepted = (0, 0); plain = (0, 0); commit = (0, 0) }
+
+abbrev pub limits : Header → KindRules
+limits h = unwrap_or (rules h.kind) no_kind
 
 -- an accepted proposal's view is at most the frame's, and 0 where there is none
 abbrev pub accepted_view_limits : Header → ℕ × ℕ
 accepted_view_limits h = cond (h.accepted == 0) (0, 0) (0, h.view)
 
-abbrev pub content_limits : ℕ → Header → ℕ × ℕ
-content_limits k h = cond (h.code == 2 || h.accepted == 2) (rules k).commit (rules k).plain
+abbrev pub content_limits : Header → ℕ × ℕ
+content_limits h = cond (h.code == 2 || h.accepted == 2) (limits h).commit (limits h).plain
 
-abbrev pub header_fields : ℕ → Header → List Field
-header_fields k h =
-    record { place = 5; width = 1; good = (rules k).known }
+-- the fields of a header and the content's flag
+abbrev pub header_fields : Header → ℕ → List Field
+header_fields h n =
+    record { place = 5; width = 1; good = is_some (rules h.kind) }
     ∷ ranged 6 h.transaction (1, 32)
     ∷ ranged 7 h.sender (0, 6)
-    ∷ ranged 8 h.view (rules k).view
-    ∷ ranged 9 h.code (rules k).code
-    ∷ ranged 10 h.accepted (rules k).accepted
+    ∷ ranged 8 h.view (limits h).view
+    ∷ ranged 9 h.code (limits h).code
+    ∷ ranged 10 h.accepted (limits h).accepted
     ∷ ranged 11 h.accepted_view (accepted_view_limits h)
-    ∷ ranged 12 h.content (content_limits k h)
+    ∷ ranged 12 n (content_limits h)
     ∷ []
 
 -- the second, and how many reads and writes follow: at most four of each, and one row at least
@@ -76,18 +84,6 @@ abbrev pub part_fields : ℕ → Option Part → List Field
 part_fields t None = []
 part_fields t (Some p) = content_fields (timestamp p.second t) p.reads p.writes
 
-abbrev pub header : Value → Header
-header v =
-    record {
-      transaction = v.transaction;
-      sender = v.sender;
-      view = v.view;
-      code = v.code;
-      accepted = v.accepted;
-      accepted_view = v.accepted_view;
-      content = flag v.content;
-    }
-
 -- the fields of a message's frame
 abbrev pub value_fields : Value → List Field
-value_fields v = header_fields v.letter (header v) ++ part_fields v.transaction v.content
+value_fields v = header_fields v.header (flag v.content) ++ part_fields v.header.transaction v.content

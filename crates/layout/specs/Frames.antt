@@ -17,8 +17,9 @@ part_bytes (Some p) =
 -- the frame of a message: mark, version, the numbers, the content
 abbrev pub frame : Value → List ℕ
 frame v =
+    let h = v.header in
     0x54 ∷ 0x4B ∷ 0x41 ∷ 0 ∷ 1
-    ∷ v.letter ∷ v.transaction ∷ v.sender ∷ v.view ∷ v.code ∷ v.accepted ∷ v.accepted_view ∷ flag v.content
+    ∷ h.kind ∷ h.transaction ∷ h.sender ∷ h.view ∷ h.code ∷ h.accepted ∷ h.accepted_view ∷ flag v.content
     ∷ part_bytes v.content
 
 -- every number fits its bytes
@@ -41,13 +42,13 @@ pub record Lawful (v : Value) : Type 0 where
 abbrev pub header_in : List ℕ → Header
 header_in b =
     record {
+      kind = slice_index b 5;
       transaction = slice_index b 6;
       sender = slice_index b 7;
       view = slice_index b 8;
       code = slice_index b 9;
       accepted = slice_index b 10;
       accepted_view = slice_index b 11;
-      content = slice_index b 12;
     }
 
 abbrev pub content_in : List ℕ → Part
@@ -63,17 +64,7 @@ part_in b = cond (slice_index b 12 == 1) (Some (content_in b)) None
 
 -- the message that stands in bytes, if they are a frame
 abbrev pub value_in : List ℕ → Value
-value_in b =
-    record {
-      letter = slice_index b 5;
-      transaction = slice_index b 6;
-      sender = slice_index b 7;
-      view = slice_index b 8;
-      code = slice_index b 9;
-      accepted = slice_index b 10;
-      accepted_view = slice_index b 11;
-      content = part_in b;
-    }
+value_in b = record { header = header_in b; content = part_in b }
 
 -- the mark and the version
 abbrev pub mark_fields : List ℕ → List Field
@@ -93,4 +84,4 @@ end_field b = ending (length b) (size (part_in b))
 -- the fields of bytes, in order
 abbrev pub byte_fields : List ℕ → List Field
 byte_fields b =
-    mark_fields b ++ (header_fields (slice_index b 5) (header_in b) ++ (part_fields (slice_index b 6) (part_in b) ++ (end_field b ∷ [])))
+    mark_fields b ++ (header_fields (header_in b) (slice_index b 12) ++ (part_fields (slice_index b 6) (part_in b) ++ (end_field b ∷ [])))

@@ -2,6 +2,7 @@
 use Rattle.std.specs.Prelude.{ℕ, ◌+◌, ◌*◌, List, length, Some, None, Option}
 use Rattle.content.specs.declared.rows.Read.{Read}
 use Rattle.content.specs.declared.rows.Write.{Write}
+use Rattle.layout.specs.declared.format.Header.{Header}
 use Rattle.layout.specs.declared.fields.Fields.{Fields}
 use Rattle.layout.specs.declared.fields.ContentFields.{ContentFields}
 
@@ -13,13 +14,7 @@ pub record Part : Type 0 where
 
 -- a message: its numbers, and its content if it has one
 pub record Value : Type 0 where
-  pub letter : ℕ
-  pub transaction : ℕ
-  pub sender : ℕ
-  pub view : ℕ
-  pub code : ℕ
-  pub accepted : ℕ
-  pub accepted_view : ℕ
+  pub header : Header
   pub content : Option Part
 
 -- 1 where a content follows
@@ -37,15 +32,5 @@ part_given None = None
 part_given (Some c) = Some (record { second = c.second; reads = c.reads.now; writes = c.writes.now })
 
 -- what bare fields mean
-abbrev pub given : ℕ → Fields → Value
-given k f =
-    record {
-      letter = k;
-      transaction = f.transaction;
-      sender = f.sender;
-      view = f.view;
-      code = f.code;
-      accepted = f.accepted;
-      accepted_view = f.accepted_view;
-      content = part_given f.content;
-    }
+abbrev pub given : Fields → Value
+given f = record { header = f.header; content = part_given f.content }

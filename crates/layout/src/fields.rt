@@ -1,14 +1,13 @@
+ghost use Rattle.std.specs.Prelude.{◌≡◌};
+ghost use Rattle.layout.specs.Values.{flag, part_given};
+
+use crate::format::Header;
 use content::rows::{Read, Write};
 
-// The fields of a frame after its kind, as plain numbers of any size.
+// The fields of a frame, as plain numbers of any size.
 #[derive(Clone, Copy)]
 pub struct Fields<'a> {
-    pub transaction: u32,
-    pub sender: u32,
-    pub view: u32,
-    pub code: u32,
-    pub accepted: u32,
-    pub accepted_view: u32,
+    pub header: Header,
     pub content: Option<ContentFields<'a>>,
 }
 
@@ -18,4 +17,13 @@ pub struct ContentFields<'a> {
     pub second: u32,
     pub reads: &'a [Read],
     pub writes: &'a [Write],
+}
+
+impl<'a> Fields<'a> {
+    // 1 where a content follows, 0 where none does.
+    pub fn flag(&self) -> u32
+        ensures { result ≡ flag (part_given self.now.content) }
+    {
+        u32::from(self.content.is_some())
+    }
 }

@@ -8,7 +8,6 @@ use field::Field;
 // The limits that a kind sets to a frame's numbers, each from the first to the second.
 #[derive(Clone, Copy)]
 pub struct KindRules {
-    known: bool,
     view: (u32, u32),
     code: (u32, u32),
     accepted: (u32, u32),
@@ -18,53 +17,62 @@ pub struct KindRules {
     commit: (u32, u32),
 }
 
-// The numbers between the kind and the content.
+// The letter of the kind, and the numbers between it and the content.
 #[derive(Clone, Copy)]
 pub struct Header {
+    pub kind: char,
     pub transaction: u32,
     pub sender: u32,
     pub view: u32,
     pub code: u32,
     pub accepted: u32,
     pub accepted_view: u32,
-    pub content: u32,
 }
 
 const NONE: (u32, u32) = (0, 0);
 
 const ONE: (u32, u32) = (1, 1);
 
+// What a letter that names no kind leaves to the numbers.
+const NO_KIND: KindRules = KindRules {
+    view: NONE,
+    code: NONE,
+    accepted: NONE,
+    plain: NONE,
+    commit: NONE,
+};
+
 // The rules by the letter of the kind.
-fn rules_of(kind: char) -> KindRules
+fn rules_of(kind: char) -> Option<KindRules>
     ensures { result ≡ rules kind }
 {
-    let (known, view, code, accepted, plain, commit) = match kind {
-        'P' => (true, NONE, NONE, NONE, ONE, ONE),
-        'V' => (true, NONE, (1, 2), NONE, NONE, NONE),
-        'A' => (true, (0, 255), (1, 2), NONE, NONE, ONE),
-        'B' => (true, (0, 255), NONE, NONE, NONE, NONE),
-        'D' => (true, NONE, (1, 2), NONE, NONE, ONE),
-        'C' => (true, (1, 255), NONE, NONE, NONE, NONE),
-        'R' => (true, (1, 255), (0, 2), (0, 2), (0, 1), ONE),
-        _ => (false, NONE, NONE, NONE, NONE, NONE),
+    let (view, code, accepted, plain, commit) = match kind {
+        'P' => (NONE, NONE, NONE, ONE, ONE),
+        'V' => (NONE, (1, 2), NONE, NONE, NONE),
+        'A' => ((0, 255), (1, 2), NONE, NONE, ONE),
+        'B' => ((0, 255), NONE, NONE, NONE, NONE),
+        'D' => (NONE, (1, 2), NONE, NONE, ONE),
+        'C' => ((1, 255), NONE, NONE, NONE, NONE),
+        'R' => ((1, 255), (0, 2), (0, 2), (0, 1), ONE),
+        _ => return None,
     };
-    KindRules {
-        known,
+    Some(KindRules {
         view,
         code,
         accepted,
         plain,
         commit,
-    }
+    })
 }
 
 // The fields from the kind to the content's flag.
-pub fn header_fields(kind: char, h: &Header) -> [Field; 8]
-    ensures { result ≡ header_fields kind h.now }
+pub fn header_fields(h: &Header, content: u32) -> [Field; 8]
+    ensures { result ≡ header_fields h.now content }
 {
-    let rules = rules_of(kind);
+    let known = rules_of(h.kind);
+    let rules = known.unwrap_or(NO_KIND);
     let accepted_view = if h.accepted == 0 { NONE } else { (0, h.view) };
-    let content = if h.code == 2 || h.accepted == 2 {
+    let flag = if h.code == 2 || h.accepted == 2 {
         rules.commit
     } else {
         rules.plain
@@ -73,7 +81,7 @@ pub fn header_fields(kind: char, h: &Header) -> [Field; 8]
         Field {
             place: 5,
             width: 1,
-            good: rules.known,
+            good: known.is_some(),
         },
         Field::ranged(6, h.transaction, (1, 32)),
         Field::ranged(7, h.sender, (0, 6)),
@@ -81,7 +89,7 @@ pub fn header_fields(kind: char, h: &Header) -> [Field; 8]
         Field::ranged(9, h.code, rules.code),
         Field::ranged(10, h.accepted, rules.accepted),
         Field::ranged(11, h.accepted_view, accepted_view),
-        Field::ranged(12, h.content, content),
+        Field::ranged(12, content, flag),
     ]
 }
 
