@@ -7,7 +7,7 @@ ghost use Rattle.layout.specs.Values.{flag, size};
 ghost use Rattle.layout.specs.Numbers.{reading, writing, rows_in};
 ghost use Rattle.layout.specs.Format.{header_fields, content_fields, part_fields};
 ghost use Rattle.layout.specs.Frames.{header_in, content_in, part_in, mark_fields, ending};
-ghost use Rattle.frame.specs.Messages.{header, accepted_number, accepted_view, content_of, Ruled, PartsIn, PartsOf, Reads, Yields, OneFrame, parts};
+ghost use Rattle.frame.specs.Messages.{value, accepted_number, accepted_view, content_of, Ruled, PartsIn, PartsOf, Reads, Yields, OneFrame, parts};
 
 use crate::message::{Message, Parts};
 use content::rows::{Read, Write};
@@ -29,12 +29,13 @@ fn read_mark(bytes: &[u8]) -> Result<&[u8], Refusal>
     }
 }
 
-// The numbers at the places of the header.
-fn header_of(bytes: &[u8]) -> Header
+// The kind, and the numbers at the places of the header behind it.
+fn header_of(kind: char, bytes: &[u8]) -> Header
+    requires { kind ≡ slice_index bytes.now 5 }
     ensures { result ≡ header_in bytes.now }
 {
     Header {
-        kind: char::from(byte_at(bytes, 5)),
+        kind,
         transaction: u32::from(byte_at(bytes, 6)),
         sender: u32::from(byte_at(bytes, 7)),
         view: u32::from(byte_at(bytes, 8)),
@@ -98,8 +99,8 @@ fn read_header(bytes: &[u8]) -> Result<Header, Refusal>
     ensures { let b = bytes.now in
         Checking (length b) (mark_fields b ++ header_fields (header_in b) (slice_index b 12)) (λ h. h ≡ header_in b) result }
 {
-    read_mark(bytes)?;
-    let header = header_of(bytes);
+    let rest = read_mark(bytes)?;
+    let header = header_of(char::from(byte_at(rest, 0)), bytes);
     let flag = u32::from(byte_at(bytes, 12));
     check(&header_fields(&header, flag), bytes.len())?;
     Ok(header)
@@ -184,8 +185,8 @@ fn end_field(length: usize, end: usize) -> Field
 
 // The message of a header that obeys its rules with this content.
 fn message_of<'a>(header: &Header, content: Option<Parts<'a>>) -> Message<'a>
-    requires { Ruled header.now (flag (content_of content.entry)) }
-    ensures means { header result ≡ header.now }
+    requires { Ruled header.now (flag (content_of content)) }
+    ensures means { (value result).header ≡ header.now }
     ensures holds { parts result ≡ content.entry }
 {
     let Header {

@@ -20,5 +20,5 @@ returns c =
     let b = c.args.bytes.now in
     let r = c.requires.reads_there in
     let w = c.requires.writes_there in
-    let t : c.new-timestamp.result ≡ timestamp (number b 13) (get_or b 6 0) = c.new-timestamp.ensures ∙ (λ i. timestamp (c.number_at.ensures i) (c.requires.transaction_there i)) in
+    let t : c.new-timestamp.result ≡ timestamp (number b 13) (get_or b 6 0) = c.new-timestamp.ensures ∙ (λ i. timestamp (c.number_at.ensures i) ((c.from.ensures ∙ c.byte_at.ensures) i)) in
     same_checked (length b) c.check_rows_at.result (λ i. content_fields (t i) (rows_in reading (r i) (drop 19 b)) (rows_in writing (w i) (drop (9 * r i) (drop 19 b)))) c.check_rows_at.ensures

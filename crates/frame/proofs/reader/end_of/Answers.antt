@@ -1,17 +1,13 @@
 use Rattle.std.proofs.Common.{◌≡◌, ◌+◌, ◌*◌, get_or, sym, ap, ◌∙◌}
-use Rattle.layout.specs.declared.format.Header.{Header}
 use Rattle.layout.specs.Values.{size}
 use Rattle.frame.proofs.Read.{size_announced, not_announced}
 use Rattle.frame.proofs.reader.end_of.Goals as goal
 
-pub returns-then-header-eq1 : goal.returns-then-header-eq1
-returns-then-header-eq1 c =
-    let b = c.args.bytes.now in
-    let flag : c.args.header.now.content ≡ get_or b 12 0 = ap (λ (h : Header). h.content) c.requires in
-    (λ i. 19 + 9 * c.byte_at.ensures i + 8 * c.byte_at-then-header-eq1.ensures i) ∙ sym (size_announced b (sym flag ∙ c.if-header-eq1.true))
+pub returns-then-byte_at-eq1 : goal.returns-then-byte_at-eq1
+returns-then-byte_at-eq1 c =
+    (λ i. 19 + 9 * c.byte_at-then-byte_at-eq1.ensures i + 8 * c.byte_at-then-byte_at-eq1-2.ensures i)
+    ∙ sym (size_announced c.args.bytes.now (sym c.byte_at.ensures ∙ c.if-byte_at-eq1.true))
 
-pub returns-else-header-eq1 : goal.returns-else-header-eq1
-returns-else-header-eq1 c =
-    let b = c.args.bytes.now in
-    let flag : c.args.header.now.content ≡ get_or b 12 0 = ap (λ (h : Header). h.content) c.requires in
-    sym (ap size (not_announced b (λ e. c.if-header-eq1.false (flag ∙ e))))
+pub returns-else-byte_at-eq1 : goal.returns-else-byte_at-eq1
+returns-else-byte_at-eq1 c =
+    sym (ap size (not_announced c.args.bytes.now (λ e. c.if-byte_at-eq1.false (c.byte_at.ensures ∙ e))))

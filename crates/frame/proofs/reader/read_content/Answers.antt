@@ -1,7 +1,6 @@
 use Rattle.std.proofs.Common.{◌≡◌, ℕ, ◌*◌, List, length, get_or, drop, Some, Option, sym, ap, ◌∙◌, arith}
 use Rattle.std.proofs.lemmas.Result.{err_from_is_err_and}
 use Rattle.field.proofs.Faults.{same_breaks, same_passes}
-use Rattle.layout.specs.declared.format.Header.{Header}
 use Rattle.layout.specs.Numbers.{reading, writing}
 use Rattle.layout.specs.Format.{part_fields}
 use Rattle.layout.specs.Frames.{content_in, part_in}
@@ -18,7 +17,7 @@ fields b h = ap (λ (o : Option Part). part_fields (get_or b 6 0) o) (sym (annou
 pub returns-in_err-check_content_at : goal.returns-in_err-check_content_at
 returns-in_err-check_content_at c =
     let b = c.args.bytes.now in
-    let one : get_or b 12 0 ≡ 1 = ap (λ (h : Header). h.content) (sym c.requires) ∙ c.if-header-ne1.false in
+    let one : get_or b 12 0 ≡ 1 = sym c.byte_at.ensures ∙ c.if-byte_at-ne1.false in
     let p = err_from_is_err_and c.from_residual.result c.from_residual.ensures.1 in
     rw (p.1, p.2) (same_breaks (fields b one) c.in_err-check_content_at.ensures)
 
@@ -35,5 +34,5 @@ parts_at-requires c =
 pub returns : goal.returns
 returns c =
     let b = c.args.bytes.now in
-    let one : get_or b 12 0 ≡ 1 = ap (λ (h : Header). h.content) (sym c.requires) ∙ c.if-header-ne1.false in
+    let one : get_or b 12 0 ≡ 1 = sym c.byte_at.ensures ∙ c.if-byte_at-ne1.false in
     (same_passes (length b) (fields b one) c.in_ok-check_content_at.ensures, (one, c.parts_at.ensures))
