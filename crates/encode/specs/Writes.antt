@@ -1,10 +1,8 @@
 -- What writing a frame into a longer buffer promises.
-use Rattle.std.specs.Prelude.{◌≡◌, ℕ, ◌+◌, ◌<◌, ◌≤◌, ◌⊎◌, List, ◌++◌, length, take, drop, None, Ok, Err, Result}
+use Rattle.std.specs.Prelude.{◌≡◌, ℕ, ◌+◌, ◌<◌, ◌≤◌, ◌⊎◌, List, ◌++◌, length, take, drop, Ok, Err, Result}
 use Rattle.values.specs.declared.refusal.Refusal.{Refusal}
 use Rattle.values.specs.declared.refusal.Refusal.TheVariants.{ShortBuffer}
 use Rattle.field.specs.Layouts.{Passes, Breaks}
-use Rattle.layout.specs.declared.fields.Fields.{Fields}
-use Rattle.layout.specs.declared.format.Header.{Header}
 use Rattle.layout.specs.Values.{Value}
 use Rattle.layout.specs.Format.{value_fields}
 use Rattle.layout.specs.Frames.{frame}
@@ -30,16 +28,3 @@ Declined v at b e = Breaks 87 (value_fields v) e ⊎ Short v at b e
 abbrev pub Writes : Value → ℕ → List ℕ → Result ℕ Refusal → List ℕ → Type 0
 Writes v at b (Ok n) b' = Written v at n b b'
 Writes v at b (Err e) b' = (b' ≡ b) × Declined v at b e
-
--- the numbers of a header as bare fields, without a content
-abbrev pub bare : Header → Fields
-bare h =
-    record {
-      transaction = h.transaction;
-      sender = h.sender;
-      view = h.view;
-      code = h.code;
-      accepted = h.accepted;
-      accepted_view = h.accepted_view;
-      content = None;
-    }

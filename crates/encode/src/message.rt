@@ -1,8 +1,8 @@
 // Writing the frame of a message.
 
 ghost use Rattle.std.specs.Prelude.{◌≡◌, ◌/◌, ◌≤◌, length, Some};
-ghost use Rattle.frame.specs.Messages.{part_of, stated, value};
-ghost use Rattle.encode.specs.Writes.{Writes, bare};
+ghost use Rattle.frame.specs.Messages.{part_of, value};
+ghost use Rattle.encode.specs.Writes.{Writes};
 
 use crate::writer::{LONGEST, write_fields};
 use content::rows::{Read, Write};
@@ -13,32 +13,16 @@ use layout::format::{Header, count_fields, header_fields};
 use layout::row::rows_in;
 use values::refusal::Refusal;
 
-// The numbers of the header as bare fields without a content.
-fn bare_fields<'a>(header: &Header) -> Fields<'a>
-    ensures { result ≡ bare header.now }
-{
-    Fields {
-        transaction: header.transaction,
-        sender: header.sender,
-        view: header.view,
-        code: header.code,
-        accepted: header.accepted,
-        accepted_view: header.accepted_view,
-        content: None,
-    }
-}
-
 // Writes the frame of a header and a content with at most four rows of each kind.
 fn write_rows(
     buf: &mut [u8],
     at: usize,
-    kind: char,
     header: &Header,
     parts: &Parts<'_>,
 ) -> Result<usize, Refusal>
     requires few_reads { length parts.now.reads.now / 9 ≤ 4 }
     requires few_writes { length parts.now.writes.now / 8 ≤ 4 }
-    ensures { Writes (stated kind header.now (Some (part_of parts.now))) at buf.old result buf.new }
+    ensures { Writes (record { header = header.now; content = Some (part_of parts.now) }) at buf.old result buf.new }
 {
     let reads = parts.reads().len() / 9;
     let writes = parts.writes().len() / 8;
@@ -50,38 +34,41 @@ fn write_rows(
         writes: &write_rows[0..writes],
     };
     let fields = Fields {
+        header: *header,
         content: Some(content),
-        ..bare_fields(header)
     };
-    write_fields(buf, at, kind, &fields)
+    write_fields(buf, at, &fields)
 }
 
-// Writes the frame of a header that announces a content, and of the content.
+// Writes the frame of a header and a content.
 // The counts are checked before the rows are taken from the parts, which may hold any number of them.
 fn write_content(
     buf: &mut [u8],
     at: usize,
-    kind: char,
     header: &Header,
     parts: &Parts<'_>,
 ) -> Result<usize, Refusal>
-    requires { header.now.content ≡ 1 }
-    ensures { Writes (stated kind header.now (Some (part_of parts.now))) at buf.old result buf.new }
+    ensures { Writes (record { header = header.now; content = Some (part_of parts.now) }) at buf.old result buf.new }
 {
-    check(&header_fields(kind, header), LONGEST)?;
+    check(&header_fields(header, 1), LONGEST)?;
     let counts = count_fields(parts.reads().len() / 9, parts.writes().len() / 8);
     check(&counts, LONGEST)?;
-    write_rows(buf, at, kind, header, parts)
+    write_rows(buf, at, header, parts)
 }
 
 // Writes the frame of the message from the place on, and answers its length.
 pub fn write_message(buf: &mut [u8], at: usize, message: &Message<'_>) -> Result<usize, Refusal>
     ensures { Writes (value message.now) at buf.old result buf.new }
 {
-    let kind = message.kind();
     let header = message.header();
     match message.parts() {
-        Some(parts) => write_content(buf, at, kind, &header, &parts),
-        None => write_fields(buf, at, kind, &bare_fields(&header)),
+        Some(parts) => write_content(buf, at, &header, &parts),
+        None => {
+            let fields = Fields {
+                header,
+                content: None,
+            };
+            write_fields(buf, at, &fields)
+        }
     }
 }

@@ -3,14 +3,14 @@
 ghost use Rattle.std.specs.Prelude.{◌≡◌, ◌+◌, ◌*◌, ◌≤◌, ◌++◌, length, take, Some, nat_le};
 ghost use Rattle.field.specs.Layouts.{Passes, Checked};
 ghost use Rattle.layout.specs.Values.{given, part_given, size};
-ghost use Rattle.layout.specs.Format.{header, value_fields};
+ghost use Rattle.layout.specs.Format.{value_fields};
 ghost use Rattle.layout.specs.Frames.{part_bytes, frame};
 ghost use Rattle.encode.specs.Writes.{Writes};
 
 use field::check;
 use layout::bytes::content_bytes;
 use layout::fields::{ContentFields, Fields};
-use layout::format::{Header, header_fields};
+use layout::format::header_fields;
 use layout::row::check_content;
 use values::refusal::Refusal;
 use values::timestamp::Timestamp;
@@ -18,32 +18,14 @@ use values::timestamp::Timestamp;
 // The length of the longest frame.
 pub(crate) const LONGEST: usize = 87;
 
-// The numbers of the header, with the content's flag.
-fn header_of(fields: &Fields<'_>) -> Header
-    ensures { result ≡ header (given 0 fields.now) }
-{
-    Header {
-        transaction: fields.transaction,
-        sender: fields.sender,
-        view: fields.view,
-        code: fields.code,
-        accepted: fields.accepted,
-        accepted_view: fields.accepted_view,
-        content: match fields.content {
-            Some(_) => 1,
-            None => 0,
-        },
-    }
-}
-
 // Checks every number in the order of the frame.
-fn check_fields(kind: char, fields: &Fields<'_>) -> Result<(), Refusal>
-    ensures { Checked 87 (value_fields (given kind fields.now)) result }
+fn check_fields(fields: &Fields<'_>) -> Result<(), Refusal>
+    ensures { Checked 87 (value_fields (given fields.now)) result }
 {
-    check(&header_fields(kind, &header_of(fields)), LONGEST)?;
+    check(&header_fields(&fields.header, fields.flag()), LONGEST)?;
     match fields.content {
         Some(content) => {
-            let timestamp = Timestamp::new(content.second, fields.transaction);
+            let timestamp = Timestamp::new(content.second, fields.header.transaction);
             check_content(timestamp, content.reads, content.writes, LONGEST)
         }
         None => Ok(()),
@@ -51,8 +33,8 @@ fn check_fields(kind: char, fields: &Fields<'_>) -> Result<(), Refusal>
 }
 
 // The length of the frame of fields that obey their rules.
-fn frame_length(kind: char, fields: &Fields<'_>) -> usize
-    requires { Passes 87 (value_fields (given kind fields.now)) }
+fn frame_length(fields: &Fields<'_>) -> usize
+    requires { Passes 87 (value_fields (given fields.now)) }
     ensures { result ≡ size (part_given fields.now.content) }
 {
     match fields.content {
@@ -62,25 +44,25 @@ fn frame_length(kind: char, fields: &Fields<'_>) -> usize
 }
 
 // The bytes before the content.
-fn head_bytes(kind: char, fields: &Fields<'_>) -> [u8; 13]
-    requires { Passes 87 (value_fields (given kind fields.now)) }
-    ensures { result ≡ take 13 (frame (given kind fields.now)) }
+fn head_bytes(fields: &Fields<'_>) -> [u8; 13]
+    requires { Passes 87 (value_fields (given fields.now)) }
+    ensures { result ≡ take 13 (frame (given fields.now)) }
 {
-    let header = header_of(fields);
+    let header = &fields.header;
     [
         0x54,
         0x4B,
         0x41,
         0,
         1,
-        kind as u8,
+        header.kind as u8,
         header.transaction as u8,
         header.sender as u8,
         header.view as u8,
         header.code as u8,
         header.accepted as u8,
         header.accepted_view as u8,
-        header.content as u8,
+        fields.flag() as u8,
     ]
 }
 
@@ -108,12 +90,12 @@ fn join_content(part: &mut [u8], head: &[u8], content: ContentFields<'_>)
 }
 
 // Fills a part of just the frame's length.
-fn fill(part: &mut [u8], kind: char, fields: &Fields<'_>)
-    requires lawful { Passes 87 (value_fields (given kind fields.now)) }
+fn fill(part: &mut [u8], fields: &Fields<'_>)
+    requires lawful { Passes 87 (value_fields (given fields.now)) }
     requires whole { length part.old ≡ size (part_given fields.now.content) }
-    ensures { part.new ≡ frame (given kind fields.now) }
+    ensures { part.new ≡ frame (given fields.now) }
 {
-    let head = head_bytes(kind, fields);
+    let head = head_bytes(fields);
     match fields.content {
         Some(content) => join_content(part, &head, content),
         None => part.copy_from_slice(&head),
@@ -128,19 +110,14 @@ fn has_room(length: usize, at: usize, n: usize) -> bool
 }
 
 // Writes the frame of the fields from the place on, and answers its length.
-pub fn write_fields(
-    buf: &mut [u8],
-    at: usize,
-    kind: char,
-    fields: &Fields<'_>,
-) -> Result<usize, Refusal>
-    ensures { Writes (given kind fields.now) at buf.old result buf.new }
+pub fn write_fields(buf: &mut [u8], at: usize, fields: &Fields<'_>) -> Result<usize, Refusal>
+    ensures { Writes (given fields.now) at buf.old result buf.new }
 {
-    check_fields(kind, fields)?;
-    let n = frame_length(kind, fields);
+    check_fields(fields)?;
+    let n = frame_length(fields);
     if !has_room(buf.len(), at, n) {
         return Err(Refusal::ShortBuffer);
     }
-    fill(&mut buf[at..at + n], kind, fields);
+    fill(&mut buf[at..at + n], fields);
     Ok(n)
 }

@@ -8,14 +8,14 @@ use Rattle.encode.proofs.writer.write_fields.Goals as goal
 
 pub returns-then-not-has_room : goal.returns-then-not-has_room
 returns-then-not-has_room c =
-    let v = given c.args.kind c.args.fields.now in
+    let v = given c.args.fields.now in
     let n : c.frame_length-n.result ≡ length (frame v) = c.frame_length-n.ensures ∙ sym (frame_length v v.content) in
     let short = false-leb _ _ c.if-not-has_room.ensures in
     (refl, inr (record { lawful = c.in_ok-check_fields.ensures; refusal = refl; room = omega arith }))
 
 pub returns : goal.returns
 returns c =
-    let v = given c.args.kind c.args.fields.now in
+    let v = given c.args.fields.now in
     let n : c.frame_length-n.result ≡ length (frame v) = c.frame_length-n.ensures ∙ sym (frame_length v v.content) in
     record {
       lawful = c.in_ok-check_fields.ensures;
