@@ -87,25 +87,29 @@ tail_same (Some p) (Some q) f g n e =
 
 pub told_apart : ToldApart
 told_apart v w f g e =
-    let letter = encode_same v.letter w.letter _ _ e in
-    let transaction = same_number (codes " filing=") v.transaction w.transaction _ _ f.transaction g.transaction refl refl letter.1 in
-    let sender = same_number (codes " sender=") v.sender w.sender _ _ f.sender g.sender refl refl transaction.1 in
-    let view = same_number (codes " view=") v.view w.view _ _ f.view g.view refl refl sender.1 in
-    let code = same_number (codes " code=") v.code w.code _ _ f.code g.code refl refl view.1 in
-    let accepted = same_number (codes " accepted=") v.accepted w.accepted _ _ f.accepted g.accepted refl refl code.1 in
-    let accepted_view = same_number (codes " accepted_view=") v.accepted_view w.accepted_view _ _ f.accepted_view g.accepted_view refl refl accepted.1 in
+    let m = v.header in
+    let n = w.header in
+    let kind = encode_same m.kind n.kind _ _ e in
+    let transaction = same_number (codes " filing=") m.transaction n.transaction _ _ f.transaction g.transaction refl refl kind.1 in
+    let sender = same_number (codes " sender=") m.sender n.sender _ _ f.sender g.sender refl refl transaction.1 in
+    let view = same_number (codes " view=") m.view n.view _ _ f.view g.view refl refl sender.1 in
+    let code = same_number (codes " code=") m.code n.code _ _ f.code g.code refl refl view.1 in
+    let accepted = same_number (codes " accepted=") m.accepted n.accepted _ _ f.accepted g.accepted refl refl code.1 in
+    let accepted_view = same_number (codes " accepted_view=") m.accepted_view n.accepted_view _ _ f.accepted_view g.accepted_view refl refl accepted.1 in
     let h = flag_sized v.content in
     let k = flag_sized w.content in
     let content = same_number (codes " content=") (flag v.content) (flag w.content) (tail_text v.content) (tail_text w.content) (omega arith) (omega arith) (tail_ends v.content) (tail_ends w.content) accepted_view.1 in
     let part = tail_same v.content w.content f.content g.content content.0 content.1 in
     λ i.
     record {
-      letter = letter.0 i;
-      transaction = transaction.0 i;
-      sender = sender.0 i;
-      view = view.0 i;
-      code = code.0 i;
-      accepted = accepted.0 i;
-      accepted_view = accepted_view.0 i;
+      header = record {
+        kind = kind.0 i;
+        transaction = transaction.0 i;
+        sender = sender.0 i;
+        view = view.0 i;
+        code = code.0 i;
+        accepted = accepted.0 i;
+        accepted_view = accepted_view.0 i;
+      };
       content = part i;
     }

@@ -24,12 +24,12 @@ SizedPart (Some p) = Sized p.second × Each SizedRead p.reads × Each SizedWrite
 
 -- every number of a message is one of the code
 pub record SizedValue (v : Value) : Type 0 where
-  pub transaction : Sized v.transaction
-  pub sender : Sized v.sender
-  pub view : Sized v.view
-  pub code : Sized v.code
-  pub accepted : Sized v.accepted
-  pub accepted_view : Sized v.accepted_view
+  pub transaction : Sized v.header.transaction
+  pub sender : Sized v.header.sender
+  pub view : Sized v.header.view
+  pub code : Sized v.header.code
+  pub accepted : Sized v.header.accepted
+  pub accepted_view : Sized v.header.accepted_view
   pub content : SizedPart v.content
 
 -- a line leaves nothing of a message out: two messages with one line are one

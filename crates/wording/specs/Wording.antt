@@ -2,8 +2,6 @@ use Rattle.std.specs.Prelude.{ℕ, List, [], ◌∷◌, ◌++◌, map, Some, Non
 use Prim.Native.String.{String}
 use Rattle.content.specs.declared.rows.Read.{Read}
 use Rattle.content.specs.declared.rows.Write.{Write}
-use Rattle.layout.specs.declared.fields.Fields.{Fields}
-use Rattle.layout.specs.declared.format.Header.{Header}
 use Rattle.layout.specs.Values.{Value, Part, flag}
 use Rattle.values.specs.Numbers.{refusal_number, refusal_value}
 use Rattle.values.specs.declared.refusal.Refusal.{Refusal}
@@ -43,22 +41,10 @@ rest_text accepted accepted_view content =
 -- a frame in one line
 abbrev pub text : Value → List ℕ
 text v =
-    encode_utf8 v.letter
-    ++ labelled ((" filing=", v.transaction) ∷ (" sender=", v.sender) ∷ (" view=", v.view) ∷ (" code=", v.code) ∷ [])
-    (rest_text v.accepted v.accepted_view v.content)
-
--- the numbers of a header as the fields of a frame that has no content
-abbrev pub bare : Header → Fields
-bare h =
-    record {
-      transaction = h.transaction;
-      sender = h.sender;
-      view = h.view;
-      code = h.code;
-      accepted = h.accepted;
-      accepted_view = h.accepted_view;
-      content = None;
-    }
+    let h = v.header in
+    encode_utf8 h.kind
+    ++ labelled ((" filing=", h.transaction) ∷ (" sender=", h.sender) ∷ (" view=", h.view) ∷ (" code=", h.code) ∷ [])
+    (rest_text h.accepted h.accepted_view v.content)
 
 abbrev pub place_text : Option ℕ → List ℕ
 place_text None = []

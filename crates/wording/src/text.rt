@@ -1,9 +1,9 @@
 ghost use Rattle.std.specs.Prelude.{◌≡◌, ℕ, ◌/◌, List, map, length, IfOk, Some, string_bytes};
 ghost use Rattle.layout.specs.Numbers.{width, rows_in};
-ghost use Rattle.layout.specs.Values.{flag, given, part_given};
-ghost use Rattle.frame.specs.Messages.{value, stated, part_of};
+ghost use Rattle.layout.specs.Values.{given, part_given};
+ghost use Rattle.frame.specs.Messages.{value, part_of};
 ghost use Rattle.wording.specs.Apart.{ToldApart};
-ghost use Rattle.wording.specs.Wording.{read_words, write_words, listed, tail_text, rest_text, text, bare, place_text, refusal_text};
+ghost use Rattle.wording.specs.Wording.{read_words, write_words, listed, tail_text, rest_text, text, place_text, refusal_text};
 
 use content::rows::{Read, Write};
 use frame::message::{Message, Parts};
@@ -74,36 +74,30 @@ fn tail_text(heap: Global, content: Option<ContentFields<'_>>) -> Result<String,
     )
 }
 
-fn flag_number(content: Option<ContentFields<'_>>) -> u8
-    ensures { result ≡ flag (part_given content.entry) }
-{
-    match content {
-        None => 0,
-        Some(_) => 1,
-    }
-}
-
 // What follows the code.
 fn rest_text(heap: Global, fields: &Fields<'_>) -> Result<String, AllocError>
-    ensures { IfOk result (λ s. string_bytes s ≡ rest_text fields.now.accepted fields.now.accepted_view (part_given fields.now.content)) }
+    ensures { let h = fields.now.header in
+        IfOk result (λ s. string_bytes s ≡ rest_text h.accepted h.accepted_view (part_given fields.now.content)) }
 {
-    let flag = flag_number(fields.content);
+    let header = &fields.header;
+    let flag = fields.flag();
     let tail = tail_text(heap, fields.content)?;
     format!(in heap;
         " accepted={} accepted_view={} content={flag}{tail}",
-        fields.accepted, fields.accepted_view,
+        header.accepted, header.accepted_view,
     )
 }
 
 // A frame's kind and fields in one line.
-pub fn fields_text(heap: Global, kind: char, fields: &Fields<'_>) -> Result<String, AllocError>
-    ensures value { IfOk result (λ s. string_bytes s ≡ text (given kind fields.now)) }
+pub fn fields_text(heap: Global, fields: &Fields<'_>) -> Result<String, AllocError>
+    ensures value { IfOk result (λ s. string_bytes s ≡ text (given fields.now)) }
     ensures law { ToldApart }
 {
+    let header = &fields.header;
     let rest = rest_text(heap, fields)?;
     format!(in heap;
-        "{kind} filing={} sender={} view={} code={}{rest}",
-        fields.transaction, fields.sender, fields.view, fields.code,
+        "{} filing={} sender={} view={} code={}{rest}",
+        header.kind, header.transaction, header.sender, header.view, header.code,
     )
 }
 
@@ -120,29 +114,9 @@ fn rows_of<T: Row>(heap: Global, part: &[u8]) -> Result<Vec<T>, AllocError>
     Ok(rows)
 }
 
-// The numbers of a header, without a content.
-fn bare_fields<'a>(header: &Header) -> Fields<'a>
-    ensures { result ≡ bare header.now }
-{
-    Fields {
-        transaction: header.transaction,
-        sender: header.sender,
-        view: header.view,
-        code: header.code,
-        accepted: header.accepted,
-        accepted_view: header.accepted_view,
-        content: None,
-    }
-}
-
 // A frame with a content in one line.
-fn parts_text(
-    heap: Global,
-    kind: char,
-    header: &Header,
-    parts: &Parts<'_>,
-) -> Result<String, AllocError>
-    ensures { IfOk result (λ s. string_bytes s ≡ text (stated kind header.now (Some (part_of parts.now)))) }
+fn parts_text(heap: Global, header: &Header, parts: &Parts<'_>) -> Result<String, AllocError>
+    ensures { IfOk result (λ s. string_bytes s ≡ text (record { header = header.now; content = Some (part_of parts.now) })) }
 {
     let reads: Vec<Read> = rows_of(heap, parts.reads())?;
     let writes: Vec<Write> = rows_of(heap, parts.writes())?;
@@ -152,21 +126,26 @@ fn parts_text(
         writes: writes.as_slice(),
     };
     let fields = Fields {
+        header: *header,
         content: Some(content),
-        ..bare_fields(header)
     };
-    fields_text(heap, kind, &fields)
+    fields_text(heap, &fields)
 }
 
 // A message in one line.
 pub fn message_text(heap: Global, message: &Message<'_>) -> Result<String, AllocError>
     ensures { IfOk result (λ s. string_bytes s ≡ text (value message.now)) }
 {
-    let kind = message.kind();
     let header = message.header();
     match message.parts() {
-        Some(parts) => parts_text(heap, kind, &header, &parts),
-        None => fields_text(heap, kind, &bare_fields(&header)),
+        Some(parts) => parts_text(heap, &header, &parts),
+        None => {
+            let fields = Fields {
+                header,
+                content: None,
+            };
+            fields_text(heap, &fields)
+        }
     }
 }
 

@@ -9,5 +9,5 @@ returns c =
     let reads = rows_lent reading c.as_slice.ensures.value c.in_ok-reads.ensures c.reads.ensures in
     let writes = rows_lent writing c.as_slice-2.ensures.value c.in_ok-writes.ensures c.writes.ensures in
     same_text string_bytes c.fields_text.result
-    (with_part c.args.kind c.args.header.now c.bare_fields.result (part_of c.args.parts.now) c.bare_fields.ensures c.second.ensures reads writes)
+    (with_part c.args.header.now (part_of c.args.parts.now) c.second.ensures reads writes)
     c.fields_text.ensures.value
