@@ -1,5 +1,5 @@
 -- What a reader has checked, put together.
-use Rattle.std.proofs.Common.{◌≡◌, ℕ, ◌+◌, ◌*◌, ◌/◌, ◌≤◌, Bool, cond, eqb, leb, List, [], length, get_or, take, drop, is_some, Some, None, Ok, Err, Option, Result, sym, ap, ◌∙◌, subst, append-nil, arith, length-drop, length-take-le, drop-drop, eq-eqb, ne_eqb}
+use Rattle.std.proofs.Common.{◌≡◌, ℕ, ◌+◌, ◌*◌, ◌/◌, ◌≤◌, Bool, cond, leb, List, [], length, get_or, take, drop, is_some, Some, None, Ok, Err, Option, Result, sym, ap, ◌∙◌, subst, append-nil, arith, length-drop, length-take-le, drop-drop, eq-eqb, ne_eqb}
 use Rattle.std.proofs.lemmas.Bool.{and_parts}
 use Rattle.values.specs.declared.refusal.Refusal.{Refusal}
 use Rattle.field.specs.Layouts.{Passes}

@@ -1,4 +1,4 @@
-use Rattle.std.proofs.Common.{◌≡◌, ◌+◌, ◌*◌, get_or, sym, ap, ◌∙◌}
+use Rattle.std.proofs.Common.{◌+◌, ◌*◌, sym, ap, ◌∙◌}
 use Rattle.layout.specs.Values.{size}
 use Rattle.frame.proofs.Read.{size_announced, not_announced}
 use Rattle.frame.proofs.reader.end_of.Goals as goal

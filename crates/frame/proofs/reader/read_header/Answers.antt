@@ -1,4 +1,4 @@
-use Rattle.std.proofs.Common.{◌≡◌, ℕ, List, length, get_or, ap, ◌∙◌, get_or-drop}
+use Rattle.std.proofs.Common.{ℕ, List, length, get_or, ap, ◌∙◌, get_or-drop}
 use Rattle.std.proofs.lemmas.Result.{err_from_is_err_and}
 use Rattle.field.proofs.Faults.{before, after, pass_both, same_breaks, same_passes}
 use Rattle.layout.specs.Format.{header_fields}
