@@ -25,7 +25,7 @@ rules k =
     (cond (k == 82) (Some (record { view = (1, 255); code = (0, 2); accepted = (0, 2); plain = (0, 1); commit = (1, 1) }))
     None))))))
 
--- what a letter that names no kind leaves to the numbers: 0 alone
+-- a letter that names no kind leaves nothing but 0 to the numbers
 abbrev pub no_kind : KindRules
 no_kind = record { view = (0, 0); code = (0, 0); accepted = (0, 0); plain = (0, 0); commit = (0, 0) }
 

@@ -6,7 +6,7 @@ ghost use Rattle.layout.specs.Format.{rules, header_fields, count_fields};
 use field::Field;
 
 // The limits that a kind sets to a frame's numbers, each from the first to the second.
-#[derive(Clone, Copy)]
+#[derive(Clone, Copy, Default)]
 pub struct KindRules {
     view: (u32, u32),
     code: (u32, u32),
@@ -33,15 +33,6 @@ const NONE: (u32, u32) = (0, 0);
 
 const ONE: (u32, u32) = (1, 1);
 
-// What a letter that names no kind leaves to the numbers.
-const NO_KIND: KindRules = KindRules {
-    view: NONE,
-    code: NONE,
-    accepted: NONE,
-    plain: NONE,
-    commit: NONE,
-};
-
 // The rules by the letter of the kind.
 fn rules_of(kind: char) -> Option<KindRules>
     ensures { result ≡ rules kind }
@@ -65,14 +56,14 @@ fn rules_of(kind: char) -> Option<KindRules>
     })
 }
 
-// The fields from the kind to the content's flag.
+// The fields from the kind to the content's flag; a letter that names no kind leaves nothing but 0 to the others.
 pub fn header_fields(h: &Header, content: u32) -> [Field; 8]
     ensures { result ≡ header_fields h.now content }
 {
     let known = rules_of(h.kind);
-    let rules = known.unwrap_or(NO_KIND);
-    let accepted_view = if h.accepted == 0 { NONE } else { (0, h.view) };
-    let flag = if h.code == 2 || h.accepted == 2 {
+    let rules = known.unwrap_or_default();
+    let accepted_view_limits = if h.accepted == 0 { NONE } else { (0, h.view) };
+    let content_limits = if h.code == 2 || h.accepted == 2 {
         rules.commit
     } else {
         rules.plain
@@ -88,8 +79,8 @@ pub fn header_fields(h: &Header, content: u32) -> [Field; 8]
         Field::ranged(8, h.view, rules.view),
         Field::ranged(9, h.code, rules.code),
         Field::ranged(10, h.accepted, rules.accepted),
-        Field::ranged(11, h.accepted_view, accepted_view),
-        Field::ranged(12, content, flag),
+        Field::ranged(11, h.accepted_view, accepted_view_limits),
+        Field::ranged(12, content, content_limits),
     ]
 }
 
