@@ -1,9 +1,10 @@
 -- What a push and an append leave where there is room.
-use Rattle.std.proofs.Common.{◌≡◌, ℕ, ◌+◌, ◌<◌, ◌≤◌, List, [], ◌∷◌, ◌++◌, length, true, false, Ok, Err, Result, ap, arith}
+use Rattle.std.proofs.Common.{◌≡◌, ℕ, ◌+◌, ◌<◌, ◌≤◌, List, [], ◌∷◌, ◌++◌, length, true, false, Some, None, Option, Ok, Err, Result, refl, ap, arith}
+use Rattle.std.specs.Option.{is_some}
 use Rattle.std.specs.Result.{is_ok}
 use Rattle.std.proofs.lemmas.Bool.{true≢false, false≢true}
 use Rattle.bounded.specs.declared.Full.{Full}
-use Rattle.bounded.specs.Lists.{Pushed, Extended}
+use Rattle.bounded.specs.Lists.{Held, Pushed, Extended}
 
 pub pushed : {X : Type 0} (n : ℕ) (x : X) (xs xs' : List X) (r : Result (Unit {0}) X) → length xs < n → Pushed n x xs r xs' → xs' ≡ xs ++ x ∷ []
 pushed n x xs xs' (Ok u) h p = p.1
@@ -20,3 +21,8 @@ module _ {X : Type 0} (n : ℕ) (ys xs xs' : List X) where
 
   pub appended : (r : Result (Unit {0}) Full) (u : Unit {0}) → r ≡ Ok u → Extended n ys xs r xs' → xs' ≡ xs ++ ys
   appended r u e p = (extended r (ap is_ok e) p).1
+
+-- a list that fits is held
+pub held : {X : Type 0} (n : ℕ) (xs : List X) (o : Option (List X)) → length xs ≤ n → Held n xs o → is_some o ≡ true
+held n xs None h p = absurd (omega arith)
+held n xs (Some ys) h p = refl

@@ -1,8 +1,8 @@
 -- A content that a message carries.
-use Rattle.std.specs.Prelude.{◌≡◌, ◌+◌, ◌*◌, length, take, drop, Some}
+use Rattle.std.specs.Prelude.{◌≡◌}
 use Rattle.content.specs.Rules.{Body}
 use Rattle.layout.specs.Values.{Part}
-use Rattle.layout.specs.Frames.{part_bytes}
+use Rattle.layout.specs.Numbers.{laid, reading, writing}
 use Rattle.frame.specs.declared.encoded.EncodedContent.{EncodedContent}
 use Rattle.frame.specs.declared.message.Parts.{Parts}
 
@@ -10,15 +10,14 @@ use Rattle.frame.specs.declared.message.Parts.{Parts}
 abbrev pub part_said : Body → Part
 part_said b = record { second = b.timestamp.second; reads = b.reads; writes = b.writes }
 
--- the front of the bytes is the content's part of a frame
+-- the second, and the bytes of the rows
 pub record Encodes (e : EncodedContent) (p : Part) : Type 0 where
   pub second : e.second ≡ p.second
-  pub reads : e.reads ≡ length p.reads
-  pub writes : e.writes ≡ length p.writes
-  pub bytes : take (6 + 9 * e.reads + 8 * e.writes) e.bytes ≡ part_bytes (Some p)
+  pub reads : e.reads ≡ laid reading p.reads
+  pub writes : e.writes ≡ laid writing p.writes
 
--- the parts are those of the bytes, behind the second and the counts
+-- the parts are those of the content
 pub record PartsFrom (e : EncodedContent) (p : Parts) : Type 0 where
   pub second : p.second ≡ e.second
-  pub reads : p.reads.now ≡ take (9 * e.reads) (drop 6 e.bytes)
-  pub writes : p.writes.now ≡ take (8 * e.writes) (drop (6 + 9 * e.reads) e.bytes)
+  pub reads : p.reads.now ≡ e.reads
+  pub writes : p.writes.now ≡ e.writes

@@ -1,12 +1,9 @@
-ghost use Rattle.std.specs.Prelude.{◌≤◌};
+use bounded::Bounded;
 
-// A content in bytes, for a message to hold parts of: the second, the counts, the reads, the writes.
+// A content in bytes, for a message to hold parts of: the second, at most four reads, at most four writes.
 #[derive(Clone, Copy)]
 pub struct EncodedContent {
     pub(crate) second: u32,
-    pub(crate) bytes: [u8; 74],
-    pub(crate) reads: usize,
-    pub(crate) writes: usize,
-    ghost reads_fit: { reads ≤ 4 },
-    ghost writes_fit: { writes ≤ 4 },
+    pub(crate) reads: Bounded<u8, 36>,
+    pub(crate) writes: Bounded<u8, 32>,
 }

@@ -10,6 +10,7 @@ ghost use Rattle.layout.specs.Frames.{header_in, content_in, part_in, mark_field
 ghost use Rattle.frame.specs.Messages.{value, accepted_number, accepted_view, content_of, Ruled, PartsIn, PartsOf, Reads, Yields, OneFrame, parts};
 
 use crate::message::{Message, Parts};
+use bounded::Bounded;
 use content::rows::{Read, Write};
 use field::{Field, check};
 use layout::format::{Header, count_fields, header_fields};
@@ -58,12 +59,12 @@ fn check_rows_at(
         Checked (length bytes.now) (content_fields timestamp (rows_in reading reads rows) (rows_in writing writes (drop (9 * reads) rows))) result }
 {
     let rows = tail_at(bytes, 19);
-    let read_rows: [Read; 4] = rows_in(rows, reads);
-    let write_rows: [Write; 4] = rows_in(tail_at(rows, 9 * reads), writes);
+    let read_rows: Bounded<Read, 4> = rows_in(rows, reads);
+    let write_rows: Bounded<Write, 4> = rows_in(tail_at(rows, 9 * reads), writes);
     check_content(
         timestamp,
-        &read_rows[0..reads],
-        &write_rows[0..writes],
+        read_rows.as_slice(),
+        write_rows.as_slice(),
         bytes.len(),
     )
 }
