@@ -5,6 +5,7 @@ ghost use Rattle.frame.specs.Messages.{part_of, value};
 ghost use Rattle.encode.specs.Writes.{Writes};
 
 use crate::writer::{LONGEST, write_fields};
+use bounded::Bounded;
 use content::rows::{Read, Write};
 use field::check;
 use frame::message::{Message, Parts};
@@ -26,12 +27,12 @@ fn write_rows(
 {
     let reads = parts.reads().len() / 9;
     let writes = parts.writes().len() / 8;
-    let read_rows: [Read; 4] = rows_in(parts.reads(), reads);
-    let write_rows: [Write; 4] = rows_in(parts.writes(), writes);
+    let read_rows: Bounded<Read, 4> = rows_in(parts.reads(), reads);
+    let write_rows: Bounded<Write, 4> = rows_in(parts.writes(), writes);
     let content = ContentFields {
         second: parts.second(),
-        reads: &read_rows[0..reads],
-        writes: &write_rows[0..writes],
+        reads: read_rows.as_slice(),
+        writes: write_rows.as_slice(),
     };
     let fields = Fields {
         header: *header,

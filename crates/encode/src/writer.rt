@@ -83,10 +83,8 @@ fn join_content(part: &mut [u8], head: &[u8], content: ContentFields<'_>)
     requires whole { length part.old ≡ length head.now + (6 + 9 * length content.reads.now + 8 * length content.writes.now) }
     ensures { part.new ≡ head.now ++ part_bytes (part_given (Some content.entry)) }
 {
-    let n = part.len() - head.len();
-    if let Some(bytes) = content_bytes(content.second, content.reads, content.writes) {
-        join(part, head, &bytes[0..n]);
-    }
+    let bytes = content_bytes(content.second, content.reads, content.writes).unwrap();
+    join(part, head, bytes.as_slice());
 }
 
 // Fills a part of just the frame's length.

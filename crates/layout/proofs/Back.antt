@@ -1,5 +1,5 @@
 -- The frame of a lawful message passes, and that message stands in it.
-use Rattle.std.proofs.Common.{◌≡◌, ℕ, suc, ◌+◌, ◌*◌, ◌≤◌, true, leb, List, [], ◌∷◌, ◌++◌, length, drop, Some, None, Option, sym, refl, ap, ◌∙◌, subst, append-nil, mul-le-mul_left, mul-suc, arith, length-append, le-leb}
+use Rattle.std.proofs.Common.{◌≡◌, ℕ, suc, ◌+◌, ◌*◌, ◌≤◌, true, leb, List, [], ◌∷◌, ◌++◌, length, drop, Some, None, Option, sym, refl, ap, ◌∙◌, subst, append-nil, mul-le-mul_left, mul-suc, arith, le-leb}
 use lib.Seq.{drop-append_seam}
 use Rattle.values.specs.Times.{timestamp}
 use Rattle.values.specs.declared.timestamp.Timestamp.{Timestamp}
@@ -11,6 +11,7 @@ use Rattle.layout.specs.Values.{Part, Value, flag, size}
 use Rattle.layout.specs.Numbers.{Layout, width, laid, rows_in, reading, writing}
 use Rattle.layout.specs.Format.{header_fields, count_fields, row_fields, table_fields, part_fields}
 use Rattle.layout.specs.Frames.{frame, FitsPart, Lawful, part_in, value_in, mark_fields, byte_fields}
+use Rattle.layout.proofs.Length.{length_part}
 use Rattle.layout.proofs.Rows.{number_big, exact_read, exact_write, rows_laid, length_laid}
 
 -- the message with another content
@@ -33,13 +34,7 @@ value_back v l = λ i. record { header = v.header; content = part_back v v.conte
 
 pub frame_length : (v : Value) (o : Option Part) → length (frame (with_content v o)) ≡ size o
 frame_length v None = refl
-frame_length v (Some p) =
-    let b = laid reading p.reads in
-    let c = laid writing p.writes in
-    let x = length_laid reading exact_read.long p.reads in
-    let y = length_laid writing exact_write.long p.writes in
-    let a = length-append b c in
-    omega arith
+frame_length v (Some p) = let n = length_part p in omega arith
 
 table_ends : {X : Type 0} (l : Layout X) (t : Timestamp) (base : ℕ) (xs : List X) (n : ℕ) → base + width l * length xs ≤ n → Ends n (table_fields l t base xs)
 table_ends l t base xs n h =

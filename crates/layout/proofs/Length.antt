@@ -1,8 +1,10 @@
 -- How long laid rows are.
-use Rattle.std.proofs.Common.{◌≡◌, ℕ, ◌+◌, ◌*◌, ◌<◌, ◌≤◌, List, [], ◌∷◌, ◌++◌, length, get_or, take, sym, refl, ap, ◌∙◌, arith, append_assoc, length-take-le, mul-le-mul_left}
+use Rattle.std.proofs.Common.{◌≡◌, ℕ, ◌+◌, ◌*◌, ◌<◌, ◌≤◌, List, [], ◌∷◌, ◌++◌, length, get_or, take, sym, refl, ap, ◌∙◌, arith, append_assoc, length-append, Some, length-take-le, mul-le-mul_left}
 use Rattle.std.proofs.lemmas.List.{append-nil, take_more}
-use Rattle.layout.specs.Numbers.{Layout, width, laid}
-use Rattle.layout.proofs.Rows.{length_laid}
+use Rattle.layout.specs.Values.{Part}
+use Rattle.layout.specs.Numbers.{Layout, width, laid, reading, writing}
+use Rattle.layout.specs.Frames.{part_bytes}
+use Rattle.layout.proofs.Rows.{exact_read, exact_write, length_laid}
 
 module _ {X : Type 0} (l : Layout X) where
   pub laid_more : (xs ys : List X) → laid l (xs ++ ys) ≡ laid l xs ++ laid l ys
@@ -24,3 +26,11 @@ module _ {X : Type 0} (l : Layout X) where
       let m : width l * i ≤ width l * length xs = mul-le-mul_left (width l) h in
       let d : width l * length (take i xs) ≡ width l * i = ap (λ (k : ℕ). width l * k) c in
       omega arith
+
+-- how long a content's part of a frame is
+pub length_part : (p : Part) → length (part_bytes (Some p)) ≡ 6 + 9 * length p.reads + 8 * length p.writes
+length_part p =
+    let r = length_laid reading exact_read.long p.reads in
+    let w = length_laid writing exact_write.long p.writes in
+    let a = length-append (laid reading p.reads) (laid writing p.writes) in
+    omega arith

@@ -1,4 +1,4 @@
-use Rattle.std.proofs.Common.{◌≡◌, ◌*◌, ◌≤◌, length, ap, arith}
+use Rattle.std.proofs.Common.{length, ap, arith}
 use Rattle.bounded.proofs.Room.{held}
 use Rattle.content.specs.Contents.{body}
 use Rattle.content.proofs.Whole.{sound_tested}
