@@ -69,24 +69,30 @@ fn check_rows_at(
     )
 }
 
+// How many reads and writes a content has.
+fn counts_at(bytes: &[u8]) -> (usize, usize)
+    ensures reads { result.0 ≡ slice_index bytes.now 17 }
+    ensures writes { result.1 ≡ slice_index bytes.now 18 }
+{
+    (byte_at(bytes, 17) as usize, byte_at(bytes, 18) as usize)
+}
+
 // Checks the content, of which the flag says that it follows.
-fn check_content_at(bytes: &[u8], reads: usize, writes: usize) -> Result<(), Refusal>
-    requires reads_there { reads ≡ slice_index bytes.now 17 }
-    requires writes_there { writes ≡ slice_index bytes.now 18 }
+fn check_content_at(bytes: &[u8]) -> Result<(), Refusal>
     ensures { Checked (length bytes.now) (part_fields (slice_index bytes.now 6) (Some (content_in bytes.now))) result }
 {
+    let (reads, writes) = counts_at(bytes);
     check(&count_fields(reads, writes), bytes.len())?;
     let timestamp = Timestamp::new(number_at(bytes, 13), u32::from(byte_at(bytes, 6)));
     check_rows_at(bytes, reads, writes, timestamp)
 }
 
 // The parts of the bytes that hold a content.
-fn parts_at(bytes: &[u8], reads: usize, writes: usize) -> Parts<'_>
-    requires reads_there { reads ≡ slice_index bytes.now 17 }
-    requires writes_there { writes ≡ slice_index bytes.now 18 }
-    requires room { 19 + 9 * reads + 8 * writes ≤ length bytes.now }
+fn parts_at(bytes: &[u8]) -> Parts<'_>
+    requires { 19 + 9 * slice_index bytes.now 17 + 8 * slice_index bytes.now 18 ≤ length bytes.now }
     ensures { PartsIn bytes.now result }
 {
+    let (reads, writes) = counts_at(bytes);
     let middle = 19 + 9 * reads;
     Parts {
         second: number_at(bytes, 13),
@@ -114,10 +120,8 @@ fn read_content(bytes: &[u8]) -> Result<Option<Parts<'_>>, Refusal>
     if byte_at(bytes, 12) != 1 {
         return Ok(None);
     }
-    let reads = byte_at(bytes, 17) as usize;
-    let writes = byte_at(bytes, 18) as usize;
-    check_content_at(bytes, reads, writes)?;
-    Ok(Some(parts_at(bytes, reads, writes)))
+    check_content_at(bytes)?;
+    Ok(Some(parts_at(bytes)))
 }
 
 // The vote or the outcome with a number that is known to have one.
@@ -149,17 +153,11 @@ fn accepted_of(number: u32, view: u32) -> Option<Proposal>
     ensures number { accepted_number result ≡ number }
     ensures view { accepted_view result ≡ view }
 {
-    match number {
-        0 => None,
-        1 => Some(Proposal {
-            view,
-            outcome: Outcome::Abort,
-        }),
-        _ => Some(Proposal {
-            view,
-            outcome: Outcome::Commit,
-        }),
+    if number == 0 {
+        return None;
     }
+    let outcome = outcome_of(number);
+    Some(Proposal { view, outcome })
 }
 
 // Where the frame ends.
@@ -167,7 +165,8 @@ fn end_of(bytes: &[u8]) -> usize
     ensures { result ≡ size (part_in bytes.now) }
 {
     if byte_at(bytes, 12) == 1 {
-        19 + 9 * byte_at(bytes, 17) as usize + 8 * byte_at(bytes, 18) as usize
+        let (reads, writes) = counts_at(bytes);
+        19 + 9 * reads + 8 * writes
     } else {
         13
     }

@@ -10,15 +10,15 @@ use Rattle.frame.proofs.reader.check_content_at.Goals as goal
 pub returns-in_err-check : goal.returns-in_err-check
 returns-in_err-check c =
     let b = c.args.bytes.now in
-    let r = c.requires.reads_there ∙ sym (length_rows reading (get_or b 17 0) (drop 19 b)) in
-    let w = c.requires.writes_there ∙ sym (length_rows writing (get_or b 18 0) (drop (9 * get_or b 17 0) (drop 19 b))) in
+    let r = c.counts_at-reads.ensures.reads ∙ sym (length_rows reading (get_or b 17 0) (drop 19 b)) in
+    let w = c.counts_at-reads.ensures.writes ∙ sym (length_rows writing (get_or b 18 0) (drop (9 * get_or b 17 0) (drop 19 b))) in
     let p = err_from_is_err_and c.from_residual.result c.from_residual.ensures.1 in
     rw (p.1, p.2) (before _ (same_breaks (c.count_fields.ensures ∙ (λ i. count_fields (r i) (w i))) c.in_err-check.ensures.verdict))
 
 pub returns : goal.returns
 returns c =
     let b = c.args.bytes.now in
-    let r = c.requires.reads_there in
-    let w = c.requires.writes_there in
+    let r = c.counts_at-reads.ensures.reads in
+    let w = c.counts_at-reads.ensures.writes in
     let t : c.new-timestamp.result ≡ timestamp (number b 13) (get_or b 6 0) = c.new-timestamp.ensures ∙ (λ i. timestamp (c.number_at.ensures i) ((c.from.ensures ∙ c.byte_at.ensures) i)) in
     same_checked (length b) c.check_rows_at.result (λ i. content_fields (t i) (rows_in reading (r i) (drop 19 b)) (rows_in writing (w i) (drop (9 * r i) (drop 19 b)))) c.check_rows_at.ensures

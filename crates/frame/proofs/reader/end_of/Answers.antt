@@ -5,7 +5,7 @@ use Rattle.frame.proofs.reader.end_of.Goals as goal
 
 pub returns-then-byte_at-eq1 : goal.returns-then-byte_at-eq1
 returns-then-byte_at-eq1 c =
-    (λ i. 19 + 9 * c.byte_at-then-byte_at-eq1.ensures i + 8 * c.byte_at-then-byte_at-eq1-2.ensures i)
+    (λ i. 19 + 9 * c.counts_at-reads.ensures.reads i + 8 * c.counts_at-reads.ensures.writes i)
     ∙ sym (size_announced c.args.bytes.now (sym c.byte_at.ensures ∙ c.if-byte_at-eq1.true))
 
 pub returns-else-byte_at-eq1 : goal.returns-else-byte_at-eq1

@@ -24,12 +24,10 @@ returns-in_err-check_content_at c =
 pub parts_at-requires : goal.parts_at-requires
 parts_at-requires c =
     let b = c.args.bytes.now in
-    let r = c.byte_at-reads.ensures in
-    let w = c.byte_at-writes.ensures in
     let o = (whole_part (length b) (get_or b 6 0) (content_in b) c.in_ok-check_content_at.ensures).room in
     let lr = length_rows reading (get_or b 17 0) (drop 19 b) in
     let lw = length_rows writing (get_or b 18 0) (drop (9 * get_or b 17 0) (drop 19 b)) in
-    record { reads_there = r; writes_there = w; room = omega arith }
+    omega arith
 
 pub returns : goal.returns
 returns c =
