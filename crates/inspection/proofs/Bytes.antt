@@ -1,6 +1,7 @@
-use Rattle.std.proofs.Common.{◌≡◌, ℕ, zero, suc, ◌+◌, ◌*◌, ◌%◌, ◌<◌, Bool, true, cond, ◌&&◌, eqb, ltb, ◌⊎◌, List, [], ◌∷◌, ◌++◌, length, get_or, drop, Some, None, codes, Option, sym, refl, ap, ◌∙◌, subst, inl, inr, ⊎_elim, append_assoc, append-nil, arith, drop-cons, eqb-true}
+use Rattle.std.proofs.Common.{◌≡◌, ℕ, zero, suc, ◌+◌, ◌*◌, ◌%◌, ◌<◌, Bool, true, cond, ◌&&◌, eqb, ltb, ◌⊎◌, List, [], ◌∷◌, ◌++◌, length, get_or, drop, Some, None, codes, Option, sym, refl, ap, ◌∙◌, subst, inl, inr, ⊎_elim, append_assoc, append-nil, arith, drop-cons, eqb-true, get_or-drop}
 use Rattle.std.proofs.lemmas.List.{drop_all}
 use Rattle.std.proofs.lemmas.Bool.Decides.{nat_tests}
+use Rattle.std.specs.Simd.{first_chunks}
 use Rattle.inspection.specs.Spelling.{digit, paired, byte, onto, unhex, Stands, Pair, Hex}
 
 -- bs before what is still to be read
@@ -24,6 +25,24 @@ two cs i h =
     let f : 2 * i + 1 ≡ suc (2 * i) = omega arith in
     let b : suc (2 * i) < length cs = omega arith in
     rw (e, f, drop-cons cs (2 * i) 0 a, drop-cons cs (suc (2 * i)) 0 b)
+
+-- the i-th pair of characters
+pair : (cs : List ℕ) (n i : ℕ) (d : List ℕ) → i < n → let xs = get_or (first_chunks 2 n cs) i d in (get_or xs 0 0 ≡ get_or cs (2 * i) 0) × (get_or xs 1 0 ≡ get_or cs (2 * i + 1) 0)
+pair cs zero i d h = absurd (omega arith)
+pair [] (suc n) zero d h = (refl, refl)
+pair (b ∷ []) (suc n) zero d h = (refl, refl)
+pair (b ∷ c ∷ cs) (suc n) zero d h = (refl, refl)
+pair cs (suc n) (suc i) d h =
+    let p = pair (drop 2 cs) n i d (omega arith) in
+    let e : 2 + 2 * i ≡ 2 * suc i = omega arith in
+    let f : 2 + (2 * i + 1) ≡ 2 * suc i + 1 = omega arith in
+    (p.0 ∙ get_or-drop 2 cs (2 * i) 0 ∙ ap (λ (k : ℕ). get_or cs k 0) e, p.1 ∙ get_or-drop 2 cs (2 * i + 1) 0 ∙ ap (λ (k : ℕ). get_or cs k 0) f)
+
+-- what is made of a pair is made of the two characters
+pub paired_byte : {o : Option ℕ} (cs : List ℕ) (pairs : List (List ℕ)) (n i : ℕ) (d : List ℕ) → pairs ≡ first_chunks 2 n cs → i < n → o ≡ byte (get_or (get_or pairs i d) 0 0) (get_or (get_or pairs i d) 1 0) → byte (get_or cs (2 * i) 0) (get_or cs (2 * i + 1) 0) ≡ o
+paired_byte cs pairs n i d e h k =
+    let p = pair cs n i d h in
+    (λ j. byte (sym p.0 j) (sym p.1 j)) ∙ ap (λ (ps : List (List ℕ)). byte (get_or (get_or ps i d) 0 0) (get_or (get_or ps i d) 1 0)) (sym e) ∙ sym k
 
 pub after_more : (cs bs : List ℕ) (i x : ℕ) → 2 * i + 1 < length cs → byte (get_or cs (2 * i) 0) (get_or cs (2 * i + 1) 0) ≡ Some x → unhex cs ≡ after bs (unhex (drop (2 * i) cs)) → unhex cs ≡ after (bs ++ x ∷ []) (unhex (drop (2 * (i + 1)) cs))
 after_more cs bs i x h e k = k ∙ (ap (after bs) (two cs i h ∙ ap (λ (o : Option ℕ). onto o (unhex (drop (2 * (i + 1)) cs))) e) ∙ after_one bs x (unhex (drop (2 * (i + 1)) cs)))

@@ -26,12 +26,12 @@ pub fn from_hex(heap: Global, line: &[u8]) -> Result<Option<Vec<u8>>, AllocError
     ensures value { IfOk result (λ o. option_map vec_items o ≡ unhex line.now) }
     ensures spelled { IfOk result (λ o. Hex line.now (option_map vec_items o)) }
 {
-    if line.len() % 2 != 0 {
+    let (pairs, []) = line.as_chunks::<2>() else {
         return Ok(None);
-    }
-    let mut bytes = Vec::with_capacity(heap, line.len() / 2)?;
-    for i in 0..line.len() / 2 {
-        let Some(byte) = byte_value(line[2 * i], line[2 * i + 1]) else {
+    };
+    let mut bytes = Vec::with_capacity(heap, pairs.len())?;
+    for [high, low] in pairs {
+        let Some(byte) = byte_value(*high, *low) else {
             return Ok(None);
         };
         bytes.push(byte)?;
