@@ -1,9 +1,8 @@
-use Rattle.std.proofs.Common.{◌≡◌, ◌*◌, length, get_or, drop, sym, ◌∙◌}
+use Rattle.std.proofs.Common.{◌*◌, get_or, drop, sym, ◌∙◌}
 use Rattle.std.proofs.lemmas.Result.{err_from_is_err_and}
-use Rattle.values.specs.Times.{timestamp}
-use Rattle.field.proofs.Faults.{before, same_breaks, same_checked}
-use Rattle.layout.specs.Numbers.{number, reading, writing, rows_in}
-use Rattle.layout.specs.Format.{count_fields, content_fields}
+use Rattle.field.proofs.Faults.{before, same_breaks}
+use Rattle.layout.specs.Numbers.{reading, writing}
+use Rattle.layout.specs.Format.{count_fields}
 use Rattle.layout.proofs.Rows.{length_rows}
 use Rattle.frame.proofs.reader.check_content_at.Goals as goal
 
@@ -14,11 +13,3 @@ returns-in_err-check c =
     let w = c.counts_at-reads.ensures.writes ∙ sym (length_rows writing (get_or b 18 0) (drop (9 * get_or b 17 0) (drop 19 b))) in
     let p = err_from_is_err_and c.from_residual.result c.from_residual.ensures.1 in
     rw (p.1, p.2) (before _ (same_breaks (c.count_fields.ensures ∙ (λ i. count_fields (r i) (w i))) c.in_err-check.ensures.verdict))
-
-pub returns : goal.returns
-returns c =
-    let b = c.args.bytes.now in
-    let r = c.counts_at-reads.ensures.reads in
-    let w = c.counts_at-reads.ensures.writes in
-    let t : c.new-timestamp.result ≡ timestamp (number b 13) (get_or b 6 0) = c.new-timestamp.ensures ∙ (λ i. timestamp (c.number_at.ensures i) ((c.from.ensures ∙ c.byte_at.ensures) i)) in
-    same_checked (length b) c.check_rows_at.result (λ i. content_fields (t i) (rows_in reading (r i) (drop 19 b)) (rows_in writing (w i) (drop (9 * r i) (drop 19 b)))) c.check_rows_at.ensures

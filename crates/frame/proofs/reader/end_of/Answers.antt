@@ -1,13 +1,8 @@
-use Rattle.std.proofs.Common.{◌+◌, ◌*◌, sym, ap, ◌∙◌}
-use Rattle.layout.specs.Values.{size}
-use Rattle.frame.proofs.Read.{size_announced, not_announced}
+use Rattle.std.proofs.Common.{◌+◌, ◌*◌, sym, ◌∙◌}
+use Rattle.frame.proofs.Read.{size_announced}
 use Rattle.frame.proofs.reader.end_of.Goals as goal
 
 pub returns-then-byte_at-eq1 : goal.returns-then-byte_at-eq1
 returns-then-byte_at-eq1 c =
     (λ i. 19 + 9 * c.counts_at-reads.ensures.reads i + 8 * c.counts_at-reads.ensures.writes i)
     ∙ sym (size_announced c.args.bytes.now (sym c.byte_at.ensures ∙ c.if-byte_at-eq1.true))
-
-pub returns-else-byte_at-eq1 : goal.returns-else-byte_at-eq1
-returns-else-byte_at-eq1 c =
-    sym (ap size (not_announced c.args.bytes.now (λ e. c.if-byte_at-eq1.false (c.byte_at.ensures ∙ e))))

@@ -1,11 +1,7 @@
 use Rattle.std.proofs.Common.{refl, arith}
 use Rattle.std.proofs.lemmas.Bool.Decides.{nat_tests}
-use Rattle.std.proofs.lemmas.List.{take_rest}
 use Rattle.field.specs.Layouts.Breaks.{here, there}
 use Rattle.frame.proofs.reader.read_mark.Goals as goal
-
-pub returns-in-84 : goal.returns-in-84
-returns-in-84 c = ((grind (arith, nat_tests), (grind (arith, nat_tests), tt)), take_rest c.args.bytes.now 5)
 
 pub returns-in-84-2 : goal.returns-in-84-2
 returns-in-84-2 c = there (grind (arith, nat_tests)) (here (grind (arith, nat_tests)) refl)
