@@ -1,4 +1,3 @@
 mod Figures
 mod Lines
-mod Meaning
 mod Rows

@@ -1,10 +1,10 @@
-use Rattle.std.proofs.Common.{◌≡◌, ℕ, ◌+◌, ◌-◌, ◌*◌, ◌/◌, ◌<◌, ◌≤◌, List, [], ◌∷◌, ◌++◌, map, length, get_or, take, drop, sym, ap, ◌∙◌, append_assoc, append-nil, add-one, arith, lit<}
+use Rattle.std.proofs.Common.{◌≡◌, ℕ, ◌+◌, ◌*◌, ◌<◌, List, [], ◌∷◌, ◌++◌, map, length, get_or, take, drop, sym, ap, ◌∙◌, append_assoc, append-nil, add-one, lit<}
 use Rattle.std.specs.Prelude.{encode_utf8}
-use Rattle.std.proofs.lemmas.List.{map-append, take_all, take_more}
+use Rattle.std.proofs.lemmas.List.{map-append, take_more}
 use Rattle.std.proofs.lemmas.Str.{encode_ascii}
 use Rattle.layout.specs.Numbers.{Layout, width, rows_in}
 use Rattle.layout.proofs.Tables.{rows_next}
-use Rattle.wording.specs.Wording.{spaced, listed}
+use Rattle.wording.specs.Wording.{spaced}
 
 -- one more word at the end
 spaced_push : (ws : List (List ℕ)) (w : List ℕ) → spaced (ws ++ w ∷ []) ≡ spaced ws ++ (32 ∷ w)
@@ -24,20 +24,6 @@ module _ {X : Type 0} (word : X → List ℕ) where
       let space : encode_utf8 32 ≡ 32 ∷ [] = encode_ascii 32 (lit< tt) in
       rw (r, q, p, space, last, append_assoc, append_assoc)
 
-  -- the first row, and the others after it
-  pub listed_all :
-      (front t : List ℕ) (xs : List X) (i : ℕ) (x : X) → 1 ≤ length xs → x ≡ get_or xs 0 x → front ≡ word x
-      → length (take (length xs - 1) (drop 1 xs)) ≤ i → t ≡ front ++ spaced (map word (take i (take (length xs - 1) (drop 1 xs))))
-      → t ≡ listed (map word xs)
-  listed_all front t [] i x l at f h p = absurd (omega arith)
-  listed_all front t (y ∷ ys) i x l at f h p =
-      let all : take i (take (length (y ∷ ys) - 1) ys) ≡ ys = take_all i (take (length (y ∷ ys) - 1) ys) h ∙ take_all (length (y ∷ ys) - 1) ys (omega arith) in
-      p ∙ (λ j. (f ∙ ap word at) j ++ spaced (map word (all j)))
-
-  pub listed_none : (t : List ℕ) (xs : List X) → length xs < 1 → t ≡ [] → t ≡ listed (map word xs)
-  listed_none t [] l e = e
-  listed_none t (y ∷ ys) l e = absurd (omega arith)
-
 module _ {X : Type 0} (l : Layout X) {r : ℕ} (w : r ≡ l.rest) where
   -- one more row, read from its place on
   pub row_pushed :
@@ -46,6 +32,3 @@ module _ {X : Type 0} (l : Layout X) {r : ℕ} (w : r ≡ l.rest) where
   row_pushed i b rest x xs ys e d k p =
       let here : x ≡ l.row (drop (width l * i) b) = k ∙ ap l.row (d ∙ ap (λ (n : ℕ). drop ((4 + n) * i) b) w) in
       p ∙ ((λ j. e j ++ (here j ∷ [])) ∙ (sym (rows_next l i b) ∙ ap (λ (n : ℕ). rows_in l n b) (sym (add-one i))))
-
-  pub all_rows : (i : ℕ) (b : List ℕ) (xs : List X) → xs ≡ rows_in l i b → i ≡ length b / (4 + r) → xs ≡ rows_in l (length b / width l) b
-  all_rows i b xs e h = e ∙ ap (λ (n : ℕ). rows_in l n b) (h ∙ ap (λ (n : ℕ). length b / (4 + n)) w)
