@@ -2,10 +2,8 @@ use Rattle.std.proofs.Common.{◌/◌, length, Some, None, vec_items, sym, ◌�
 use Rattle.inspection.proofs.Bytes.{unhex_odd, paired_byte, after_more, after_broken, after_all, read_as}
 use Rattle.inspection.proofs.hex.from_hex.Goals as goal
 
-pub returns-in_default : goal.returns-in_default
-returns-in_default c =
-    let e = sym (unhex_odd c.args.line.now (omega arith)) in
-    record { value = e; spelled = read_as c.args.line.now None e }
+pub returns-in_default-clause-value : goal.returns-in_default-clause-value
+returns-in_default-clause-value c = sym (unhex_odd c.args.line.now (omega arith))
 
 pub returns-in_default-byte_value : goal.returns-in_default-byte_value
 returns-in_default-byte_value c =
