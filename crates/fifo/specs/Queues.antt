@@ -1,5 +1,5 @@
 -- The frames that wait, the oldest first: what a put and a take do to them.
-use Rattle.std.specs.Prelude.{ℕ, suc, cond, ◌||◌, List, [], ◌∷◌, ◌++◌, length, Some, None, Option, ◌==◌, nat_le, nat_lt}
+use Rattle.std.specs.Prelude.{ℕ, cond, ◌||◌, List, [], ◌∷◌, ◌++◌, length, Some, None, Option, ◌==◌, nat_le, nat_lt}
 use Rattle.link.specs.Frames.{Frame}
 
 -- a frame of over 128 bytes, or that comes when 64 wait, is lost
@@ -10,8 +10,3 @@ fifo_put w a b = cond (nat_lt 128 (length b) || nat_le 64 (length w)) w (w ++ (a
 abbrev pub fifo_take : List Frame → ℕ → Option (List ℕ) × List Frame
 fifo_take [] a = (None, [])
 fifo_take (f ∷ w) a = cond (f.0 == a) (Some f.1, w) ((fifo_take w a).0, f ∷ (fifo_take w a).1)
-
--- where the oldest frame for the address is, or how many wait
-abbrev pub first_place : List Frame → ℕ → ℕ
-first_place [] a = 0
-first_place (f ∷ w) a = cond (f.0 == a) 0 (suc (first_place w a))

@@ -1,31 +1,25 @@
 // A link as a queue: a take hands out the oldest frame for the address, once.
 #![tactic(auto)]
 
-ghost use Rattle.std.specs.Prelude.{◌≡◌, [], map, IfOk};
+ghost use Rattle.std.specs.Prelude.{◌≡◌, ◌==◌, [], position, IfOk};
 ghost use Rattle.link.specs.Packets.{frame_of};
-ghost use Rattle.fifo.specs.Queues.{first_place};
 ghost use Rattle.fifo.specs.Means.{fifo_waiting, FifoPuts, FifoTakes};
 ghost use Rattle.fifo.specs.IsLink.{after_put, after_take};
 
 pub mod laws;
 pub mod queue;
 
-use link::Link;
 use link::packet::Packet;
-use queue::Fifo;
+use link::{Link, check_room};
+use queue::{Fifo, MOST};
 use std::alloc::{AllocError, Global};
 use values::refusal::Refusal;
 
-// Where the first packet for the address is, or how many there are.
-fn first_for(frames: &[Packet], to: u32) -> usize
-    ensures { result ≡ first_place (map frame_of frames.now) to }
+// Where the first packet for the address is.
+fn first_for(frames: &[Packet], to: u32) -> Option<usize>
+    ensures { result ≡ position (λ p. (frame_of p).0 == to) frames.now }
 {
-    for i in 0..frames.len() {
-        if frames[i].is_for(to) {
-            return i;
-        }
-    }
-    frames.len()
+    frames.iter().position(|packet| packet.is_for(to))
 }
 
 impl Fifo {
@@ -34,7 +28,7 @@ impl Fifo {
         ensures { IfOk result (λ l. fifo_waiting l ≡ []) }
     {
         Ok(Fifo {
-            frames: Vec::with_capacity(heap, 64)?,
+            frames: Vec::with_capacity(heap, MOST)?,
         })
     }
 }
@@ -54,20 +48,16 @@ impl Link for Fifo {
         let Some(packet) = Packet::new(to, frame) else {
             return;
         };
-        if self.frames.len() >= 64 {
-            return;
+        if self.frames.len() < MOST {
+            self.frames.push_reserved(packet);
         }
-        self.frames.push_reserved(packet);
     }
 
     fn take(&mut self, to: u32, buf: &mut [u8]) -> Result<Option<usize>, Refusal> {
-        if buf.len() < 128 {
-            return Err(Refusal::ShortBuffer);
-        }
-        let i = first_for(&self.frames, to);
-        if i >= self.frames.len() {
+        check_room(buf)?;
+        let Some(i) = first_for(&self.frames, to) else {
             return Ok(None);
-        }
+        };
         let packet = self.frames.remove(i);
         Ok(Some(packet.fill(buf)))
     }

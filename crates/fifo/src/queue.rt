@@ -1,11 +1,15 @@
 ghost use Rattle.std.specs.Prelude.{◌≤◌, vec_len, vec_capacity};
+ghost use Rattle.fifo.specs.declared.queue.TheConstants.{MOST};
 
 use link::packet::Packet;
 
-// At most 64 frames, the oldest first; the yard's line.
+// How many frames wait at most.
+pub(crate) const MOST: usize = 64;
+
+// The frames that wait, the oldest first; the yard's line. The memory for all is there from the start, so that a put cannot fail.
 #[derive(Drop)]
 pub struct Fifo {
     pub(crate) frames: Vec<Packet>,
-    ghost size: { vec_len frames ≤ 64 },
-    ghost reserved: { 64 ≤ vec_capacity frames },
+    ghost size: { vec_len frames ≤ MOST },
+    ghost reserved: { MOST ≤ vec_capacity frames },
 }

@@ -1,14 +1,15 @@
 // The links that carry frames between replicas: a frame is put in for an address, and taken out for that address.
 #![tactic(auto)]
 
-ghost use Rattle.std.specs.Prelude.{◌≡◌, ℕ, List, Decides, Option, ◌==◌};
+ghost use Rattle.std.specs.Prelude.{◌≡◌, ℕ, ◌<◌, ◌≤◌, List, length, Decides, Option, ◌==◌, MatchResult};
+ghost use Rattle.values.specs.declared.refusal.Refusal.TheVariants.{ShortBuffer};
 ghost use Rattle.link.specs.Frames.{Frame, AfterPut, AfterTake, Taken};
 ghost use Rattle.link.specs.Packets.{frame_of, Packed, Filled};
 
 pub mod laws;
 pub mod packet;
 
-use packet::Packet;
+use packet::{LONGEST, Packet};
 use values::refusal::Refusal;
 
 // A link may lose, repeat and delay frames, but it makes up none. All memory is there from the start: no method allocates.
@@ -19,11 +20,11 @@ pub trait Link {
 
     ghost takes: { Self → ℕ → Option (List ℕ) → Self → Type 0 };
 
-    // A frame of over 128 bytes is lost.
+    // A frame over the longest is lost.
     fn put(&mut self, to: u32, frame: &[u8])
         ensures { puts self.old to frame.now self.new };
 
-    // How many bytes of the buffer the frame taken fills, if any. The buffer must have room for the longest frame, so that none is cut.
+    // How many bytes of the buffer the frame taken fills, if any.
     fn take(&mut self, to: u32, buf: &mut [u8]) -> Result<Option<usize>, Refusal>
         ensures { Taken takes self.old to buf.old result buf.new self.new };
 
@@ -32,16 +33,28 @@ pub trait Link {
     ghost hands: { (l l' : Self) (a : ℕ) (o : Option (List ℕ)) → takes l a o l' → AfterTake (waiting l) a o (waiting l') };
 }
 
+// A take's buffer must have room for the longest frame, so that none is cut.
+pub fn check_room(buf: &[u8]) -> Result<(), Refusal>
+    ensures { MatchResult result
+        (λ _. LONGEST ≤ length buf.now)
+        (λ e. (length buf.now < LONGEST) × (e ≡ ShortBuffer)) }
+{
+    if buf.len() < LONGEST {
+        return Err(Refusal::ShortBuffer);
+    }
+    Ok(())
+}
+
 impl Packet {
-    // None exactly if the frame has over 128 bytes.
+    // None exactly if the frame is over the longest.
     pub fn new(to: u32, frame: &[u8]) -> Option<Packet>
         ensures { Packed to frame.now result }
     {
         let n = frame.len();
-        if n > 128 {
+        if n > LONGEST {
             return None;
         }
-        let mut bytes = [0; 128];
+        let mut bytes = [0; LONGEST];
         bytes[0..n].copy_from_slice(frame);
         Some(Packet { to, len: n, bytes })
     }

@@ -1,10 +1,14 @@
 ghost use Rattle.std.specs.Prelude.{◌≤◌};
+ghost use Rattle.link.specs.declared.packet.TheConstants.{LONGEST};
 
-// A frame in memory of its own: an address and at most 128 bytes.
+// How many bytes the longest frame has.
+pub const LONGEST: usize = 128;
+
+// A frame in memory of its own: an address and the bytes.
 #[derive(Clone, Copy)]
 pub struct Packet {
     pub(crate) to: u32,
     pub(crate) len: usize,
-    pub(crate) bytes: [u8; 128],
-    ghost ok: { len ≤ 128 },
+    pub(crate) bytes: [u8; LONGEST],
+    ghost ok: { len ≤ LONGEST },
 }
