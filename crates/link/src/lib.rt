@@ -20,7 +20,7 @@ pub trait Link {
 
     ghost takes: { Self → ℕ → Option (List ℕ) → Self → Type 0 };
 
-    // A frame over the longest is lost.
+    // A frame of over LONGEST bytes is lost.
     fn put(&mut self, to: u32, frame: &[u8])
         ensures { puts self.old to frame.now self.new };
 
@@ -46,7 +46,7 @@ pub fn check_room(buf: &[u8]) -> Result<(), Refusal>
 }
 
 impl Packet {
-    // None exactly if the frame is over the longest.
+    // None exactly if the frame has over LONGEST bytes.
     pub fn new(to: u32, frame: &[u8]) -> Option<Packet>
         ensures { Packed to frame.now result }
     {

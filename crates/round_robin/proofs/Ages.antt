@@ -1,15 +1,18 @@
 -- What a put does to the places, and which frames they hold after any calls.
-use Rattle.std.proofs.Common.{◌≡◌, ℕ, ◌+◌, ◌%◌, ◌<◌, ◌≤◌, true, false, ◌≢◌, ◌⊎◌, List, [], ◌∷◌, ◌++◌, length, Some, None, leb, ltb, set, refl, sym, ap, ◌∙◌, subst, append_assoc, append-nil, inl, inr, arith}
-use Rattle.std.proofs.lemmas.List.{length_push, length-set, get_or_append_left, get_or_push, get_or-set_same, get_or-set_other}
+use Rattle.std.proofs.Common.{◌≡◌, ℕ, ◌+◌, ◌%◌, ◌<◌, ◌≤◌, true, false, ◌≢◌, ◌⊎◌, List, [], ◌∷◌, ◌++◌, length, Some, None, leb, ltb, set, vec_items, refl, sym, ap, ◌∙◌, subst, append_assoc, append-nil, inl, inr, arith}
+use Rattle.std.proofs.lemmas.List.{length-map, length_push, length-set, get_or_append_left, get_or_push, get_or-set_same, get_or-set_other}
 use Rattle.std.proofs.lemmas.Bool.{cases_lt, lt-ltb, le-ltb, le-leb, lt-leb}
 use Rattle.link.specs.Frames.{Frame}
 use Rattle.link.specs.Laws.{Call, Put, Take, frames_put, Run}
 use Rattle.round_robin.specs.declared.rotation.RoundRobin.{RoundRobin}
 use Rattle.round_robin.specs.Places.{Places, new_places, no_frame, at, round_put}
 use Rattle.round_robin.specs.Means.{places_of, round_waiting, RoundPuts, RoundTakes}
-use Rattle.round_robin.specs.IsLink.{size_of}
+use Rattle.link.specs.Packets.{frame_of}
 use Rattle.round_robin.specs.Laws.{LastOf, RoundRobinLaws}
 use Rattle.round_robin.proofs.Turns.{took, same_frames, none_waits}
+
+size_of : (l : RoundRobin) → length (round_waiting l) ≤ 16
+size_of l = omega (arith, length-map (vec_items l.frames) frame_of, l.frames.ok.0, l.size)
 
 -- the three ways of a put
 data Puts (m : Places) (a : ℕ) (b : List ℕ) (m' : Places) : Type 0 where

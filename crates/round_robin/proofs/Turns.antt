@@ -1,45 +1,54 @@
 -- Which frame a take hands out, and what stays.
-use Rattle.std.proofs.Common.{◌≡◌, ℕ, zero, suc, ◌+◌, ◌-◌, ◌%◌, ◌<◌, ◌≤◌, true, false, ltb, ◌⊎◌, List, [], ◌∷◌, length, Some, None, Option, eqb, ◌≢◌, refl, sym, ap, ◌∙◌, subst, inl, inr, arith}
-use Rattle.std.proofs.lemmas.Bool.{both_ways, cases_Bool, eqb-true, eq-eqb, ltb-true, lt-ltb, le-ltb, and_parts, and_from}
+use Rattle.std.proofs.Common.{◌≡◌, ℕ, zero, suc, ◌+◌, ◌-◌, ◌%◌, ◌<◌, ◌≤◌, Bool, true, false, ltb, ◌⊎◌, List, [], ◌∷◌, length, get_or, Some, None, Option, eqb, ◌≢◌, find, refl, sym, ap, ◌∙◌, subst, inl, inr, arith}
+use Rattle.std.specs.List.{range_with_len}
+use Rattle.std.proofs.lemmas.List.{length-append, get_or_append_left, get_or-append_right}
+use Rattle.std.proofs.lemmas.List.FromFn.{length-range_with_len, get_or-range_with_len}
+use Rattle.std.proofs.lemmas.Bool.{both_ways, cases_Bool, cases_lt, eq-eqb, lt-ltb, and_from}
 use Rattle.link.specs.Frames.{Frame, Among, NoneFor}
-use Rattle.round_robin.specs.IsLink.{among_at}
-use Rattle.round_robin.specs.Places.{Places, at, is_to, round, moved, handed, round_take}
+use Rattle.round_robin.specs.IsLink.{found, among_at, is_taken}
+use Rattle.round_robin.specs.Places.{Places, at, is_to, round_from, round, moved, handed, round_take}
 use Rattle.round_robin.specs.Laws.{Turn}
-use Rattle.round_robin.proofs.Rounds.{round_stop, round_go, round_end}
 
--- the round over n places from p on comes to q as the first for the address
-record Stops (w : List Frame) (a n p q : ℕ) : Type 0 where
-  steps : ℕ
-  few : steps < n
-  place : q ≡ (p + steps) % 16
-  here : is_to w a q ≡ true
-  past : (d : ℕ) → d < steps → is_to w a ((p + d) % 16) ≡ false
-
--- it comes to none
-abbrev Passes : List Frame → ℕ → ℕ → ℕ → ℕ → Type 0
-Passes w a n p q = (q ≡ 16) × ((d : ℕ) → d < n → is_to w a ((p + d) % 16) ≡ false)
-
--- a round that passed p and goes on
-past_more : (w : List Frame) (a p s : ℕ) → p < 16 → is_to w a p ≡ false → ((d : ℕ) → d < s → is_to w a (((p + 1) % 16 + d) % 16) ≡ false) → (d : ℕ) → d < s + 1 → is_to w a ((p + d) % 16) ≡ false
-past_more w a p s l f past zero h = let e : (p + 0) % 16 ≡ p = omega arith in rw e f
-past_more w a p s l f past (suc d) h = let e : (p + suc d) % 16 ≡ ((p + 1) % 16 + d) % 16 = omega arith in rw e (past d (omega arith))
-
-rounds : (w : List Frame) (a n p : ℕ) → p < 16 → Stops w a n p (round w a n p) ⊎ Passes w a n p (round w a n p)
-rounds w a zero p l = inr (round_end w a p, λ d h. absurd (omega arith))
-rounds w a (suc n) p l = go (rounds w a n ((p + 1) % 16) (omega arith)) (cases_Bool (is_to w a p))
+-- what a search found, at its place, and that it passed all that stand before
+search_found : (test : ℕ → Bool) (xs : List ℕ) (q : ℕ) → find test xs ≡ Some q
+    → (i : ℕ) × (i < length xs) × (q ≡ get_or xs i 0) × ((k : ℕ) → k < i → test (get_or xs k 0) ≡ false)
+search_found test [] q e = absurd cc
+search_found test (x ∷ xs) q e = go (search_found test xs q) (cases_Bool (test x))
   where
-    go : Stops w a n ((p + 1) % 16) (round w a n ((p + 1) % 16)) ⊎ Passes w a n ((p + 1) % 16) (round w a n ((p + 1) % 16)) → (is_to w a p ≡ true) ⊎ (is_to w a p ≡ false)
-        → Stops w a (suc n) p (round w a (suc n) p) ⊎ Passes w a (suc n) p (round w a (suc n) p)
-    go more (inl t) =
-        let e : round w a (suc n) p ≡ p = round_stop w a n p t in
-        inl (rw e (record { steps = 0; few = omega arith; place = omega arith; here = t; past = λ d h. absurd (omega arith) }))
-    go (inl s) (inr f) =
-        let e : round w a (suc n) p ≡ round w a n ((p + 1) % 16) = round_go w a n p f in
-        inl (rw e (record { steps = s.steps + 1; few = omega (arith, s.few); place = omega (arith, s.place); here = s.here; past = past_more w a p s.steps l f s.past }))
-    go (inr (e, past)) (inr f) = inr (round_go w a n p f ∙ e, λ d h. past_more w a p n l f past d (omega arith))
+    go : (find test xs ≡ Some q → (i : ℕ) × (i < length xs) × (q ≡ get_or xs i 0) × ((k : ℕ) → k < i → test (get_or xs k 0) ≡ false)) → (test x ≡ true) ⊎ (test x ≡ false)
+        → (i : ℕ) × (i < suc (length xs)) × (q ≡ get_or (x ∷ xs) i 0) × ((k : ℕ) → k < i → test (get_or (x ∷ xs) k 0) ≡ false)
+    go more (inl t) = let s : Some x ≡ Some q = rw t at e in (0, omega arith, (cc), λ k l. absurd (omega arith))
+    go more (inr n) = let r = more (rw n at e) in (suc r.0, omega (arith, r.1), r.2, passed r.0 r.3)
+      where
+        passed : (i : ℕ) → ((k : ℕ) → k < i → test (get_or xs k 0) ≡ false) → (k : ℕ) → k < suc i → test (get_or (x ∷ xs) k 0) ≡ false
+        passed i p zero l = n
+        passed i p (suc k) l = p k (omega arith)
 
-is_taken : (w : List Frame) (a p : ℕ) → is_to w a p ≡ true → (p < length w) × ((at w p).0 ≡ a)
-is_taken w a p t = let q = and_parts (ltb p (length w)) (eqb (at w p).0 a) t in (ltb-true p (length w) q.0, eqb-true (at w p).0 a q.1)
+search_lost : (test : ℕ → Bool) (xs : List ℕ) → find test xs ≡ None → (k : ℕ) → k < length xs → test (get_or xs k 0) ≡ false
+search_lost test [] e k l = absurd (omega arith)
+search_lost test (x ∷ xs) e k l = go (search_lost test xs) (cases_Bool (test x)) k l
+  where
+    go : (find test xs ≡ None → (k : ℕ) → k < length xs → test (get_or xs k 0) ≡ false) → (test x ≡ true) ⊎ (test x ≡ false)
+        → (k : ℕ) → k < suc (length xs) → test (get_or (x ∷ xs) k 0) ≡ false
+    go more (inl t) k l = let s : Some x ≡ None = rw t at e in absurd cc
+    go more (inr n) zero l = n
+    go more (inr n) (suc k) l = more (rw n at e) k (omega arith)
+
+-- the places of a round, one after another
+module _ (p : ℕ) (begin : p < 16) where
+  count : length (round_from p) ≡ 16
+  count = omega (arith, length-append (range_with_len p (16 - p)) (range_with_len 0 p), length-range_with_len p (16 - p), length-range_with_len 0 p)
+
+  step : (i : ℕ) → i < 16 → get_or (round_from p) i 0 ≡ (p + i) % 16
+  step i l = go (cases_lt i (16 - p))
+    where
+      go : (i < 16 - p) ⊎ (16 - p ≤ i) → get_or (round_from p) i 0 ≡ (p + i) % 16
+      go (inl m) =
+          get_or_append_left (range_with_len p (16 - p)) (range_with_len 0 p) 0 i (omega (arith, length-range_with_len p (16 - p)))
+          ∙ get_or-range_with_len p (16 - p) i 0 m ∙ omega arith
+      go (inr m) =
+          get_or-append_right (range_with_len p (16 - p)) (range_with_len 0 p) (16 - p) i 0 (length-range_with_len p (16 - p)) m
+          ∙ get_or-range_with_len 0 p (i - (16 - p)) 0 (omega arith) ∙ omega arith
 
 is_not : (w : List Frame) (a p : ℕ) → is_to w a p ≡ false → p < length w → (at w p).0 ≢ a
 is_not w a p f l e = both_ways (is_to w a p) f (and_from (ltb p (length w)) (eqb (at w p).0 a) (lt-ltb p (length w) l) (eq-eqb (at w p).0 a e))
@@ -71,24 +80,26 @@ same_frames m m' a (Some b) s = (ap (λ x. x.frames) s.after, ap (λ x. x.oldest
 -- the places are 16, and a round begins at one of them
 module _ (m : Places) (size : length m.frames ≤ 16) (begin : m.next < 16) where
   means : (a : ℕ) → Means m a (round_take m a).0 (round_take m a).1
-  means a = go (round m.frames a 16 m.next) (rounds m.frames a 16 m.next begin)
+  means a = go (round m.frames a m.next) refl
     where
-      go : (p : ℕ) → Stops m.frames a 16 m.next p ⊎ Passes m.frames a 16 m.next p → Means m a (handed m p).0 (handed m p).1
-      go p (inr (e, past)) =
-          let f : ltb p (length m.frames) ≡ false = le-ltb p (length m.frames) (omega arith) in
-          rw f (none_at m.frames a m.next size begin past, refl)
-      go p (inl s) =
-          let q = is_taken m.frames a p s.here in
-          let t : ltb p (length m.frames) ≡ true = lt-ltb p (length m.frames) q.0 in
+      go : (r : Option ℕ) → round m.frames a m.next ≡ r → Means m a (handed m r).0 (handed m r).1
+      go None e =
+          let past = search_lost (is_to m.frames a) (round_from m.next) e in
+          (none_at m.frames a m.next size begin (λ d h. ap (is_to m.frames a) (sym (step m.next begin d h)) ∙ past d (omega (arith, count m.next begin))), refl)
+      go (Some p) e =
+          let s = search_found (is_to m.frames a) (round_from m.next) p e in
+          let few : s.0 < 16 = omega (arith, s.1, count m.next begin) in
+          let place : p ≡ (m.next + s.0) % 16 = s.2 ∙ step m.next begin s.0 few in
+          let q = is_taken m.frames a p (found (is_to m.frames a) (round_from m.next) p e) in
           let whole : ◌≡◌ {A = Frame} (at m.frames p) (a, (at m.frames p).1) = λ i. (q.1 i, (at m.frames p).1) in
-          rw t (record {
-            steps = s.steps;
-            few = s.few;
-            taken = omega (arith, s.place, q.0);
-            here = ap (at m.frames) (sym s.place) ∙ whole;
-            past = λ d h. is_not m.frames a ((m.next + d) % 16) (s.past d h);
-            after = ap (moved m) s.place;
-          })
+          record {
+            steps = s.0;
+            few = few;
+            taken = omega (arith, place, q.0);
+            here = ap (at m.frames) (sym place) ∙ whole;
+            past = λ d h. is_not m.frames a ((m.next + d) % 16) (ap (is_to m.frames a) (sym (step m.next begin d (omega arith))) ∙ s.3 d h);
+            after = ap (moved m) place;
+          }
 
   module _ (m' : Places) (a : ℕ) (o : Option (List ℕ)) (e : (o, m') ≡ round_take m a) where
     pub took : Means m a o m'

@@ -1,15 +1,11 @@
 -- That frames at 16 places obey the laws of a link.
 -- It stands here because the impl cites it; there is nothing in it that a reader has to believe.
-use Rattle.std.specs.Prelude.{◌≡◌, ℕ, zero, suc, ◌+◌, ◌%◌, ◌<◌, ◌≤◌, true, false, ◌⊎◌, List, [], ◌∷◌, length, vec_items, Option, ◌==◌, nat_lt, slice_set, refl}
-use Rattle.std.proofs.Common.{sym, ap, subst, inl, inr, arith}
-use Rattle.std.proofs.lemmas.List.{length-map}
-use Rattle.std.proofs.lemmas.Bool.{cases_Bool, cases_lt, eqb-true, lt-ltb, le-ltb, and_parts}
+use Rattle.std.specs.Prelude.{◌≡◌, ℕ, zero, suc, ◌<◌, ◌≤◌, Bool, true, false, ◌⊎◌, List, [], ◌∷◌, length, Some, None, Option, find, ◌==◌, nat_lt, slice_set, refl}
+use Rattle.std.proofs.Common.{sym, ap, ◌∙◌, subst, inl, inr, arith}
+use Rattle.std.proofs.lemmas.Bool.{cases_Bool, cases_lt, eqb-true, ltb-true, lt-ltb, le-ltb, and_parts}
 use Rattle.link.specs.Frames.{Frame, Among, AfterPut, AfterTake}
-use Rattle.link.specs.Packets.{frame_of}
 use Rattle.link.proofs.Frames.{among_push, put_lost, put_kept}
-use Rattle.round_robin.specs.declared.rotation.RoundRobin.{RoundRobin}
-use Rattle.round_robin.specs.Places.{Places, at, round_put, is_to, round, handed, round_take}
-use Rattle.round_robin.specs.Means.{round_waiting}
+use Rattle.round_robin.specs.Places.{Places, at, round_put, is_to, round_from, round, handed, round_take}
 
 among_set : (f x : Frame) (w : List Frame) (i : ℕ) → Among f (slice_set w i x) → Among f w ⊎ (f ≡ x)
 among_set f x [] i m = absurd m
@@ -38,46 +34,33 @@ after_put m m' a b e = go (cases_lt 128 (length b)) (cases_Bool (nat_lt (length 
         let t : nat_lt 128 (length b) ≡ false = le-ltb 128 (length b) l in
         put_kept m.frames m'.frames a b l (λ f k. among_set f (a, b) m.frames m.oldest (subst (Among f) (rw (t, h) at same) k))
 
--- a round comes to a frame for the address or to 16
-comes : (w : List Frame) (a n p : ℕ) → (is_to w a (round w a n p) ≡ true) ⊎ (round w a n p ≡ 16)
-unfolding round
-comes w a zero p = inr refl
-comes w a (suc n) p = go (comes w a n ((p + 1) % 16)) (cases_Bool (is_to w a p))
+-- what a search finds passes its test
+pub found : {X : Type 0} (test : X → Bool) (xs : List X) (x : X) → find test xs ≡ Some x → test x ≡ true
+found test [] x e = absurd cc
+found test (y ∷ xs) x e = go (found test xs x) (cases_Bool (test y))
   where
-    go : (is_to w a (round w a n ((p + 1) % 16)) ≡ true) ⊎ (round w a n ((p + 1) % 16) ≡ 16)
-        → (is_to w a p ≡ true) ⊎ (is_to w a p ≡ false)
-        → (is_to w a (round w a (suc n) p) ≡ true) ⊎ (round w a (suc n) p ≡ 16)
-    go more (inl t) = inl (rw t t)
-    go more (inr f) = rw f more
+    go : (find test xs ≡ Some x → test x ≡ true) → (test y ≡ true) ⊎ (test y ≡ false) → test x ≡ true
+    go more (inl t) = let q : Some y ≡ Some x = rw t at e in let s : x ≡ y = cc in ap test s ∙ t
+    go more (inr n) = more (rw n at e)
 
 pub among_at : (w : List Frame) (p : ℕ) → p < length w → Among (at w p) w
 among_at [] p l = absurd (omega arith)
 among_at (x ∷ w) zero l = inl refl
 among_at (x ∷ w) (suc p) l = inr (among_at w p (omega arith))
 
-pub size_of : (l : RoundRobin) → length (round_waiting l) ≤ 16
-size_of l = omega (arith, length-map (vec_items l.frames) frame_of, l.frames.ok.0, l.size)
+pub is_taken : (w : List Frame) (a p : ℕ) → is_to w a p ≡ true → (p < length w) × ((at w p).0 ≡ a)
+is_taken w a p t = let q = and_parts (nat_lt p (length w)) ((at w p).0 == a) t in (ltb-true p (length w) q.0, eqb-true (at w p).0 a q.1)
 
--- the places are 16
-module _ (m : Places) (size : length m.frames ≤ 16) where
-  after : (a p : ℕ) → (is_to m.frames a p ≡ true) ⊎ (p ≡ 16) → AfterTake m.frames a (handed m p).0 (handed m p).1.frames
-  after a p c = go (cases_lt p (length m.frames)) c
-    where
-      here : (b : List ℕ) → p < length m.frames → (at m.frames p).0 ≡ a → (at m.frames p).1 ≡ b → Among (a, b) m.frames
-      here b l e q = subst (λ (f : Frame). Among f m.frames) (λ i. (e i, q i)) (among_at m.frames p l)
+after : (m : Places) (a : ℕ) (r : Option ℕ) → ((p : ℕ) → r ≡ Some p → is_to m.frames a p ≡ true) → AfterTake m.frames a (handed m r).0 (handed m r).1.frames
+after m a None h = record { waited = λ b e. absurd cc; still = λ f k. k }
+after m a (Some p) h = record { waited = λ b e. subst (λ (f : Frame). Among f m.frames) (here b cc) (among_at m.frames p q.0); still = λ f k. k }
+  where
+    q : (p < length m.frames) × ((at m.frames p).0 ≡ a)
+    q = is_taken m.frames a p (h p refl)
 
-      go : (p < length m.frames) ⊎ (length m.frames ≤ p) → (is_to m.frames a p ≡ true) ⊎ (p ≡ 16)
-          → AfterTake m.frames a (handed m p).0 (handed m p).1.frames
-      go (inl l) (inl t) =
-          let s : nat_lt p (length m.frames) ≡ true = lt-ltb p (length m.frames) l in
-          let q = and_parts (nat_lt p (length m.frames)) ((at m.frames p).0 == a) t in
-          rw s (record { waited = λ b e. here b l (eqb-true (at m.frames p).0 a q.1) cc; still = λ f k. k })
-      go (inl l) (inr e) = absurd (omega arith)
-      go (inr l) c =
-          let s : nat_lt p (length m.frames) ≡ false = le-ltb p (length m.frames) l in
-          rw s (record { waited = λ b e. absurd cc; still = λ f k. k })
+    here : (b : List ℕ) → (at m.frames p).1 ≡ b → at m.frames p ≡ (a, b)
+    here b e = λ i. (q.1 i, e i)
 
-  pub after_take : (m' : Places) (a : ℕ) (o : Option (List ℕ)) → (o, m') ≡ round_take m a → AfterTake m.frames a o m'.frames
-  after_take m' a o e =
-      let here = after a (round m.frames a 16 m.next) (comes m.frames a 16 m.next) in
-      subst (λ (r : Option (List ℕ) × Places). AfterTake m.frames a r.0 r.1.frames) (sym e) here
+pub after_take : (m m' : Places) (a : ℕ) (o : Option (List ℕ)) → (o, m') ≡ round_take m a → AfterTake m.frames a o m'.frames
+after_take m m' a o e =
+    subst (λ (r : Option (List ℕ) × Places). AfterTake m.frames a r.0 r.1.frames) (sym e) (after m a (round m.frames a m.next) (found (is_to m.frames a) (round_from m.next)))

@@ -1,5 +1,6 @@
 -- Frames at 16 places: what a put and a take do to them.
-use Rattle.std.specs.Prelude.{ℕ, zero, suc, ◌+◌, ◌%◌, Bool, cond, ◌&&◌, List, [], ◌∷◌, ◌++◌, length, Some, None, Option, ◌==◌, nat_lt, slice_index_or, slice_set}
+use Rattle.std.specs.Prelude.{ℕ, ◌+◌, ◌-◌, ◌%◌, Bool, cond, ◌&&◌, List, [], ◌∷◌, ◌++◌, length, Some, None, Option, ◌==◌, nat_lt, slice_index_or, slice_set, find}
+use Rattle.std.specs.List.{range_with_len}
 use Rattle.link.specs.Frames.{Frame}
 
 -- the frames by place, the place of the oldest, and the place where the next round begins
@@ -30,18 +31,22 @@ round_put m a b =
 abbrev pub is_to : List Frame → ℕ → ℕ → Bool
 is_to w a p = nat_lt p (length w) && (at w p).0 == a
 
--- the first place for the address among n from p on, round, or 16
-unfoldable pub round : List Frame → ℕ → ℕ → ℕ → ℕ
-round w a zero p = 16
-round w a (suc n) p = cond (is_to w a p) p (round w a n ((p + 1) % 16))
+-- the places in the order of a round that begins at p
+abbrev pub round_from : ℕ → List ℕ
+round_from p = range_with_len p (16 - p) ++ range_with_len 0 p
+
+-- the first place for the address in a round that begins at p
+abbrev pub round : List Frame → ℕ → ℕ → Option ℕ
+round w a p = find (is_to w a) (round_from p)
 
 -- the next round begins after the place
 abbrev pub moved : Places → ℕ → Places
 moved m p = record { frames = m.frames; oldest = m.oldest; next = (p + 1) % 16 }
 
--- the bytes at the place, if it is taken, and the places after they are handed out
-abbrev pub handed : Places → ℕ → Option (List ℕ) × Places
-handed m p = cond (nat_lt p (length m.frames)) (Some (at m.frames p).1, moved m p) (None, m)
+-- the bytes at the place that the round came to, and the places after they are handed out
+abbrev pub handed : Places → Option ℕ → Option (List ℕ) × Places
+handed m None = (None, m)
+handed m (Some p) = (Some (at m.frames p).1, moved m p)
 
 abbrev pub round_take : Places → ℕ → Option (List ℕ) × Places
-round_take m a = handed m (round m.frames a 16 m.next)
+round_take m a = handed m (round m.frames a m.next)

@@ -1,14 +1,18 @@
 ghost use Rattle.std.specs.Prelude.{◌<◌, ◌≤◌, vec_len, vec_capacity};
+ghost use Rattle.round_robin.specs.declared.rotation.TheConstants.{PLACES};
 
 use link::packet::Packet;
 
-// At most 16 frames, each at its place, with the places where the oldest is and where the next round begins; the yard's pouch.
+// How many frames there are at most, each at its place.
+pub(crate) const PLACES: usize = 16;
+
+// The frames by place, the place of the oldest, and the place where the next round begins; the yard's pouch. The memory for all is there from the start, so that a put cannot fail.
 #[derive(Drop)]
 pub struct RoundRobin {
     pub(crate) frames: Vec<Packet>,
     pub(crate) oldest: usize,
     pub(crate) next: usize,
-    ghost size: { vec_len frames ≤ 16 },
-    ghost reserved: { 16 ≤ vec_capacity frames },
-    ghost within: { (oldest < 16) × (next < 16) },
+    ghost size: { vec_len frames ≤ PLACES },
+    ghost reserved: { PLACES ≤ vec_capacity frames },
+    ghost within: { (oldest < PLACES) × (next < PLACES) },
 }
