@@ -1,10 +1,11 @@
 -- What the filter's rule means.
-use Rattle.std.proofs.Common.{◌≡◌, ℕ, ◌-◌, true, false, ◌⊎◌, List, [], ◌∷◌, ◌++◌, take, Some, None, Ok, vec_items, Option, sym, ap, ◌∙◌, subst, inl, inr, append_assoc, append-nil, arith}
-use native.Mathlib.Nat.{sub-zero}
+use Rattle.std.proofs.Common.{◌≡◌, ℕ, Bool, eqb, ◌&&◌, map, refl, true, false, ◌⊎◌, List, [], ◌∷◌, ◌++◌, take, Some, None, Ok, vec_items, Option, sym, ap, ◌∙◌, subst, inl, inr, append_assoc, append-nil, arith}
+use Rattle.std.specs.List.{list_any}
 use Rattle.std.proofs.lemmas.List.{length-map}
 use Rattle.std.proofs.lemmas.Bool.{both_ways, cases_Bool}
 use Rattle.link.specs.declared.Link as link
 use Rattle.link.specs.declared.packet.Packet.{Packet}
+use Rattle.link.proofs.Frames.{same_bytes}
 use Rattle.link.specs.Frames.{Frame, Among, Taken}
 use Rattle.link.specs.Laws.{Call, Put, Take, frames_taken, Run}
 use Rattle.link.specs.Packets.{frame_of, Packed}
@@ -12,26 +13,35 @@ use Rattle.duplicate_filter.specs.declared.filter.DuplicateFilter.{DuplicateFilt
 use Rattle.duplicate_filter.specs.Repeats.{seen, last_eight, filtered}
 use Rattle.duplicate_filter.specs.Means.{recent_of, filter_waiting, FilterPuts, FilterTakes}
 use Rattle.duplicate_filter.specs.Laws.{Passed, Swallowed, OneTake, FilterLaws}
-use Rattle.duplicate_filter.proofs.Repeats.{seen_decides, last_push}
+use Rattle.duplicate_filter.proofs.Repeats.{seen_decides, seen_from_contains, last_push}
 
 -- an answer and the last eight after it
 abbrev Outcome : Type 0
 Outcome = Option (List ℕ) × List Frame
 
--- the packet x of an inner frame that is none of the last eight
-pub passes : (rs rs' : List Frame) (a : ℕ) (b c : List ℕ) (r : Option Packet) (x : Packet) → r ≡ Some x → Packed a b r → seen (frame_of x) rs ≡ false → c ≡ (frame_of x).1
-    → rs' ≡ last_eight (rs ++ frame_of x ∷ []) → ◌≡◌ {A = Outcome} (Some c, rs') (filtered rs a (Some b))
-passes rs rs' a b c r x is p n h q =
-    let e : frame_of x ≡ (a, b) = (subst (Packed a b) is p).1 in
-    let new : seen (a, b) rs ≡ false = ap (λ f. seen f rs) (sym e) ∙ n in
-    rw new (λ i. (Some ((h ∙ ap (λ f. f.1) e) i), (q ∙ ap (λ f. last_eight (rs ++ f ∷ [])) e) i))
+-- the packet x of an inner frame
+module _ (xs : List Packet) (a : ℕ) (b : List ℕ) (r : Option Packet) (x : Packet) (is : r ≡ Some x) (p : Packed a b r) where
+  framed : frame_of x ≡ (a, b)
+  framed = (subst (Packed a b) is p).1
+
+  sought : (t : Bool) → t ≡ list_any (λ y. eqb y.to x.to && same_bytes 128 y.bytes x.bytes) xs → seen (a, b) (map frame_of xs) ≡ t
+  sought t e = ap (λ f. seen f (map frame_of xs)) (sym framed) ∙ sym (e ∙ seen_from_contains xs x)
+
+  pub repeats : true ≡ list_any (λ y. eqb y.to x.to && same_bytes 128 y.bytes x.bytes) xs → ◌≡◌ {A = Outcome} (None, map frame_of xs) (filtered (map frame_of xs) a (Some b))
+  repeats e = let t : seen (a, b) (map frame_of xs) ≡ true = sought true e in rw t refl
+
+  pub passes : (rs' : List Frame) (c : List ℕ) → false ≡ list_any (λ y. eqb y.to x.to && same_bytes 128 y.bytes x.bytes) xs → c ≡ (frame_of x).1 → rs' ≡ last_eight (map frame_of xs ++ frame_of x ∷ [])
+      → ◌≡◌ {A = Outcome} (Some c, rs') (filtered (map frame_of xs) a (Some b))
+  passes rs' c e h q =
+      let n : seen (a, b) (map frame_of xs) ≡ false = sought false e in
+      rw n (λ i. (Some ((h ∙ ap (λ f. f.1) framed) i), (q ∙ ap (λ f. last_eight (map frame_of xs ++ f ∷ [])) framed) i))
 
 -- what the inner link handed out
-pub inner_took : {L : Type 0} (K : link.Ghosts L) (j j' : L) (a n : ℕ) (buf buf' : List ℕ) (o : Option ℕ) → o ≡ Some n → Taken K.takes j a buf (Ok o) buf' j' → K.takes j a (Some (take (n - 0) buf')) j'
+pub inner_took : {L : Type 0} (K : link.Ghosts L) (j j' : L) (a n : ℕ) (buf buf' : List ℕ) (o : Option ℕ) → o ≡ Some n → Taken K.takes j a buf (Ok o) buf' j' → K.takes j a (Some (take n buf')) j'
 inner_took K j j' a n buf buf' None e t = let z : ◌≡◌ {A = ℕ} 0 1 = cc in absurd (omega arith)
 inner_took K j j' a n buf buf' (Some k) e t =
     let same : k ≡ n = cc in
-    subst (λ (m : ℕ). K.takes j a (Some (take m buf')) j') (same ∙ sym (sub-zero n)) t.2
+    subst (λ (m : ℕ). K.takes j a (Some (take m buf')) j') same t.2
 
 -- the two ways of an inner frame
 data Ways (rs : List Frame) (a : ℕ) (b : List ℕ) (o : Option (List ℕ)) (rs' : List Frame) : Type 0 where

@@ -1,5 +1,6 @@
 -- Which frames count as repeats, and what is answered for them.
-use Rattle.std.specs.Prelude.{ℕ, ◌-◌, Bool, false, cond, ◌&&◌, ◌||◌, List, [], ◌∷◌, ◌++◌, length, drop, Some, None, Option, ◌==◌}
+use Rattle.std.specs.Prelude.{ℕ, ◌-◌, Bool, cond, ◌&&◌, List, [], ◌∷◌, ◌++◌, length, drop, Some, None, Option, ◌==◌}
+use Rattle.std.specs.List.{list_any}
 use Rattle.std.specs.Str.{bytes_eq}
 use Rattle.link.specs.Frames.{Frame}
 
@@ -9,8 +10,7 @@ same_frame f g = f.0 == g.0 && bytes_eq f.1 g.1
 
 -- the frame is one of those
 abbrev pub seen : Frame → List Frame → Bool
-seen f [] = false
-seen f (x ∷ xs) = same_frame f x || seen f xs
+seen f rs = list_any (same_frame f) rs
 
 abbrev pub last_eight : List Frame → List Frame
 last_eight h = drop (length h - 8) h

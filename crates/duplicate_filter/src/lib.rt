@@ -3,37 +3,25 @@
 
 ghost use Rattle.std.specs.Prelude.{◌≡◌, [], ◌∷◌, ◌++◌, map, IfOk};
 ghost use Rattle.link.specs.Packets.{frame_of};
-ghost use Rattle.duplicate_filter.specs.Repeats.{seen, last_eight};
+ghost use Rattle.duplicate_filter.specs.Repeats.{last_eight};
 ghost use Rattle.duplicate_filter.specs.Means.{recent_of, filter_waiting, FilterPuts, FilterTakes};
 ghost use Rattle.duplicate_filter.specs.IsLink.{after_take};
 
 pub mod filter;
 pub mod laws;
 
-use filter::DuplicateFilter;
-use link::Link;
-use link::packet::Packet;
+use filter::{DuplicateFilter, REMEMBERED};
+use link::packet::{LONGEST, Packet};
+use link::{Link, check_room};
 use std::alloc::{AllocError, Global};
 use values::refusal::Refusal;
-
-// Whether the packet's frame is one of the others.
-fn contains(frames: &[Packet], packet: &Packet) -> bool
-    ensures { result ≡ seen (frame_of packet.now) (map frame_of frames.now) }
-{
-    for i in 0..frames.len() {
-        if frames[i].same(packet) {
-            return true;
-        }
-    }
-    false
-}
 
 impl<L: Drop> DuplicateFilter<L> {
     // A filter that has handed out nothing yet, with memory for all that it will hold. Where there is none, the link is let go.
     pub fn new(heap: Global, inner: L) -> Result<DuplicateFilter<L>, AllocError>
         ensures { IfOk result (λ l. (l.inner ≡ inner) × (recent_of l ≡ [])) }
     {
-        let recent = Vec::with_capacity(heap, 8)?;
+        let recent = Vec::with_capacity(heap, REMEMBERED)?;
         Ok(DuplicateFilter { inner, recent })
     }
 }
@@ -44,11 +32,9 @@ impl<L> DuplicateFilter<L> {
         ensures inner { self.new.inner ≡ self.old.inner }
         ensures recent { recent_of self.new ≡ last_eight (recent_of self.old ++ frame_of packet ∷ []) }
     {
-        if self.recent.len() < 8 {
-            self.recent.push_reserved(packet);
-            return;
+        if self.recent.len() >= REMEMBERED {
+            let _oldest = self.recent.remove(0);
         }
-        let _ = self.recent.remove(0);
         self.recent.push_reserved(packet);
     }
 }
@@ -70,15 +56,13 @@ impl<L: Link> Link for DuplicateFilter<L> {
 
     // The inner link fills a buffer of the filter's own, so that a frame that is swallowed leaves the caller's as it was.
     fn take(&mut self, to: u32, buf: &mut [u8]) -> Result<Option<usize>, Refusal> {
-        if buf.len() < 128 {
-            return Err(Refusal::ShortBuffer);
-        }
-        let mut own = [0; 128];
+        check_room(buf)?;
+        let mut own = [0; LONGEST];
         let Some(n) = self.inner.take(to, &mut own)? else {
             return Ok(None);
         };
-        let packet = Packet::new(to, &own[0..n]).unwrap();
-        if contains(&self.recent, &packet) {
+        let packet = Packet::new(to, &own[..n]).unwrap();
+        if self.recent.contains(&packet) {
             return Ok(None);
         }
         self.note(packet);

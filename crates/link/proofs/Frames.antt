@@ -1,10 +1,14 @@
 -- Frames that wait, and what a packet fills: what the links share.
-use Rattle.std.proofs.Common.{◌≡◌, ℕ, ◌-◌, ◌≤◌, ◌⊎◌, List, [], ◌∷◌, ◌++◌, length, take, sym, ap, ◌∙◌, subst, inl, inr, arith}
-use native.Mathlib.Nat.{sub-zero}
-use Rattle.std.proofs.lemmas.List.{length-take, length-take-le, take_all, take_at, take-take}
+use Rattle.std.proofs.Common.{◌≡◌, ℕ, Bool, eqb, ◌&&◌, refl, Decides, ◌≤◌, ◌⊎◌, List, [], ◌∷◌, ◌++◌, length, take, sym, ap, ◌∙◌, subst, inl, inr, arith}
+use Rattle.std.specs.Cmp.Lexicographic.{pointwise}
+use Rattle.std.proofs.lemmas.Slice.Eq.{slice_eq-Decides}
+use Rattle.std.proofs.lemmas.Bool.Decides.{Decides-and, Decides-eqb, Decides-like}
+use Rattle.bounded.specs.Filled.{filled}
+use Rattle.bounded.proofs.Filled.{front_filled}
+use Rattle.std.proofs.lemmas.List.{take_all}
 use Rattle.link.specs.declared.packet.Packet.{Packet}
 use Rattle.link.specs.Frames.{Frame, Among, AfterPut}
-use Rattle.link.specs.Packets.{frame_of, Filled, PacketLaws}
+use Rattle.link.specs.Packets.{frame_of, Filled}
 
 pub among_push : (f x : Frame) (w : List Frame) → Among f (w ++ x ∷ []) → Among f w ⊎ (f ≡ x)
 among_push f x [] (inl e) = inr e
@@ -27,20 +31,8 @@ put_kept w w' a b fits or f m = go (or f m)
     go (inl h) = inl h
     go (inr e) = inr (e, fits)
 
--- what a packet holds whose bytes begin with b
-pub packed : (to n : ℕ) (b zs post : List ℕ) → zs ≡ b → n ≡ length b → ◌≡◌ {A = Frame} (to, take n (zs ++ post)) (to, b)
-packed to n b zs post e h =
-    let t : take n (zs ++ post) ≡ b = rw e (take_at b post n (sym h)) in
-    λ i. (to, t i)
-
--- what a buffer begins with that a part of the first k bytes was copied to
-pub copied : (n k : ℕ) (bytes zs post : List ℕ) → zs ≡ take (n - 0) bytes → n ≤ k → n ≤ length bytes → take n (zs ++ post) ≡ take n (take k bytes)
-copied n k bytes zs post e l m =
-    let z : zs ≡ take n bytes = e ∙ ap (λ j. take j bytes) (sub-zero n) in
-    take_at zs post n (ap length z ∙ length-take-le n bytes m) ∙ z ∙ sym (take-take n k bytes l)
-
-small : (p : Packet) → length (frame_of p).1 ≤ 128
-small p = omega (arith, length-take p.len p.bytes, p.ok)
+pub small : (p : Packet) → length (frame_of p).1 ≤ 128
+small p = p.ok
 
 -- a buffer of 128 bytes has room for the frame of every packet
 module _ (p : Packet) (buf buf' : List ℕ) (n : ℕ) (room : 128 ≤ length buf) (f : Filled (frame_of p).1 buf n buf') where
@@ -50,5 +42,15 @@ module _ (p : Packet) (buf buf' : List ℕ) (n : ℕ) (room : 128 ≤ length buf
   pub fits : n ≤ 128
   fits = omega (arith, small p, f.size)
 
-pub packet_laws : PacketLaws
-packet_laws = record { small = small; whole = whole }
+-- what `==` computes of bytes that are filled up with zeros, and of packets
+abbrev pub same_bytes : ℕ → List ℕ → List ℕ → Bool
+same_bytes n xs ys = pointwise eqb (filled n 0 xs) (filled n 0 ys) && eqb (length xs) (length ys)
+
+same_bytes-Decides : (n : ℕ) (xs ys : List ℕ) → Decides (same_bytes n xs ys) (xs ≡ ys)
+same_bytes-Decides n xs ys =
+    Decides-like (same_bytes n xs ys) (λ (e, l). sym (front_filled n 0 xs _ refl) ∙ (λ i. take (l i) (e i)) ∙ front_filled n 0 ys _ refl) (λ e. (ap (filled n 0) e, ap length e))
+    (Decides-and _ _ (slice_eq-Decides Decides-eqb (filled n 0 xs) (filled n 0 ys) _ refl) (Decides-eqb (length xs) (length ys)))
+
+pub same : (p q : Packet) → Decides (eqb p.to q.to && same_bytes 128 p.bytes q.bytes) (frame_of p ≡ frame_of q)
+same p q =
+    Decides-like _ (λ (a, b). λ i. (a i, b i)) (λ e. (ap (λ f. f.0) e, ap (λ f. f.1) e)) (Decides-and _ _ (Decides-eqb p.to q.to) (same_bytes-Decides 128 p.bytes q.bytes))

@@ -1,10 +1,10 @@
 -- The frame that a packet holds.
-use Rattle.std.specs.Prelude.{◌≡◌, ℕ, ◌<◌, ◌≤◌, min, List, length, take, drop, Some, None, Option}
+use Rattle.std.specs.Prelude.{◌≡◌, ℕ, Bool, Decides, ◌<◌, ◌≤◌, min, List, length, take, drop, Some, None, Option}
 use Rattle.link.specs.declared.packet.Packet.{Packet}
 use Rattle.link.specs.Frames.{Frame}
 
 abbrev pub frame_of : Packet → Frame
-frame_of p = (p.to, take p.len p.bytes)
+frame_of p = (p.to, p.bytes)
 
 -- a packet of that frame, none exactly if it has over 128 bytes
 abbrev pub Packed : ℕ → List ℕ → Option Packet → Type 0
@@ -17,7 +17,10 @@ pub record Filled (bytes buf : List ℕ) (n : ℕ) (buf' : List ℕ) : Type 0 wh
   pub front : take n buf' ≡ take n bytes
   pub rest : drop n buf' ≡ drop n buf
 
-pub record PacketLaws : Type 0 where
+-- over the `==` of packets
+pub record PacketLaws (eq : Packet → Packet → Bool) : Type 0 where
   pub small : (p : Packet) → length (frame_of p).1 ≤ 128
   -- 128 bytes have room for every packet
   pub whole : (p : Packet) (buf buf' : List ℕ) (n : ℕ) → 128 ≤ length buf → Filled (frame_of p).1 buf n buf' → take n buf' ≡ (frame_of p).1
+  -- two are equal exactly if they hold the same frame, address included
+  pub same : (p q : Packet) → Decides (eq p q) (frame_of p ≡ frame_of q)

@@ -9,6 +9,7 @@ ghost use Rattle.link.specs.Packets.{frame_of, Packed, Filled};
 pub mod laws;
 pub mod packet;
 
+use bounded::Bounded;
 use packet::{LONGEST, Packet};
 use values::refusal::Refusal;
 
@@ -50,13 +51,8 @@ impl Packet {
     pub fn new(to: u32, frame: &[u8]) -> Option<Packet>
         ensures { Packed to frame.now result }
     {
-        let n = frame.len();
-        if n > LONGEST {
-            return None;
-        }
-        let mut bytes = [0; LONGEST];
-        bytes[0..n].copy_from_slice(frame);
-        Some(Packet { to, len: n, bytes })
+        let bytes = Bounded::new(frame)?;
+        Some(Packet { to, bytes })
     }
 
     pub fn is_for(&self, to: u32) -> bool
@@ -69,18 +65,9 @@ impl Packet {
     pub fn fill(&self, buf: &mut [u8]) -> usize
         ensures { Filled (frame_of self.now).1 buf.old result buf.new }
     {
-        let n = self.len.min(buf.len());
-        buf[0..n].copy_from_slice(&self.bytes[0..n]);
+        let bytes = self.bytes.as_slice();
+        let n = bytes.len().min(buf.len());
+        buf[..n].copy_from_slice(&bytes[..n]);
         n
-    }
-
-    // Whether the two hold the same frame, address included.
-    pub fn same(&self, other: &Packet) -> bool
-        ensures { Decides result (frame_of self.now ≡ frame_of other.now) }
-    {
-        if self.to != other.to {
-            return false;
-        }
-        &self.bytes[0..self.len] == &other.bytes[0..other.len]
     }
 }

@@ -1,5 +1,5 @@
-use Rattle.link.proofs.Frames.{packet_laws}
+use Rattle.link.proofs.Frames.{small, whole, same}
 use Rattle.link.proofs.laws.packet_stands.Goals as goal
 
 pub returns : goal.returns
-returns c = packet_laws
+returns c = record { small = small; whole = whole; same = same }
