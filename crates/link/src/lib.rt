@@ -1,7 +1,7 @@
 // The links that carry frames between replicas: a frame is put in for an address, and taken out for that address.
 #![tactic(auto)]
 
-ghost use Rattle.std.specs.Prelude.{◌≡◌, ℕ, ◌<◌, ◌≤◌, List, length, Decides, Option, ◌==◌, MatchResult};
+ghost use Rattle.std.specs.Prelude.{◌≡◌, ℕ, ◌<◌, ◌≤◌, List, length, Option, ◌==◌, MatchResult};
 ghost use Rattle.values.specs.declared.refusal.Refusal.TheVariants.{ShortBuffer};
 ghost use Rattle.link.specs.Frames.{Frame, AfterPut, AfterTake, Taken};
 ghost use Rattle.link.specs.Packets.{frame_of, Packed, Filled};

@@ -1,40 +1,19 @@
 -- What a put does to the places, and which frames they hold after any calls.
-use Rattle.std.proofs.Common.{◌≡◌, ℕ, ◌+◌, ◌%◌, ◌<◌, ◌≤◌, true, false, ◌≢◌, ◌⊎◌, List, [], ◌∷◌, ◌++◌, length, Some, None, leb, ltb, set, vec_items, refl, sym, ap, ◌∙◌, subst, append_assoc, append-nil, inl, inr, arith}
+use Rattle.std.proofs.Common.{◌≡◌, ℕ, ◌+◌, ◌%◌, ◌<◌, ◌≤◌, true, false, ◌≢◌, ◌⊎◌, List, [], ◌∷◌, ◌++◌, length, Some, None, leb, set, vec_items, refl, sym, ap, ◌∙◌, subst, append_assoc, append-nil, inl, inr, arith}
 use Rattle.std.proofs.lemmas.List.{length-map, length_push, length-set, get_or_append_left, get_or_push, get_or-set_same, get_or-set_other}
-use Rattle.std.proofs.lemmas.Bool.{cases_lt, lt-ltb, le-ltb, le-leb, lt-leb}
+use Rattle.std.proofs.lemmas.Bool.{cases_lt, le-leb, lt-leb}
 use Rattle.link.specs.Frames.{Frame}
 use Rattle.link.specs.Laws.{Call, Put, Take, frames_put, Run}
 use Rattle.round_robin.specs.declared.rotation.RoundRobin.{RoundRobin}
-use Rattle.round_robin.specs.Places.{Places, new_places, no_frame, at, round_put}
+use Rattle.round_robin.specs.Places.{Places, new_places, no_frame, at}
 use Rattle.round_robin.specs.Means.{places_of, round_waiting, RoundPuts, RoundTakes}
 use Rattle.link.specs.Packets.{frame_of}
+use Rattle.round_robin.specs.IsLink.{Puts, lost, added, replaced, puts}
 use Rattle.round_robin.specs.Laws.{LastOf, RoundRobinLaws}
 use Rattle.round_robin.proofs.Turns.{took, same_frames, none_waits}
 
 size_of : (l : RoundRobin) → length (round_waiting l) ≤ 16
 size_of l = omega (arith, length-map (vec_items l.frames) frame_of, l.frames.ok.0, l.size)
-
--- the three ways of a put
-data Puts (m : Places) (a : ℕ) (b : List ℕ) (m' : Places) : Type 0 where
-  lost : 128 < length b → m' ≡ m → Puts m a b m'
-  added : length b ≤ 128 → length m.frames < 16 → m'.frames ≡ m.frames ++ (a, b) ∷ [] → m'.oldest ≡ m.oldest → m'.next ≡ m.next → Puts m a b m'
-  replaced : length b ≤ 128 → 16 ≤ length m.frames → m'.frames ≡ set m.frames m.oldest (a, b) → m'.oldest ≡ (m.oldest + 1) % 16 → m'.next ≡ m.next → Puts m a b m'
-
-puts : (m m' : Places) (a : ℕ) (b : List ℕ) → m' ≡ round_put m a b → Puts m a b m'
-puts m m' a b e = go (cases_lt 128 (length b)) (cases_lt (length m.frames) 16)
-  where
-    go : (128 < length b) ⊎ (length b ≤ 128) → (length m.frames < 16) ⊎ (16 ≤ length m.frames) → Puts m a b m'
-    go (inl l) h = let t : ltb 128 (length b) ≡ true = lt-ltb 128 (length b) l in lost l (rw t at e)
-    go (inr l) (inl h) =
-        let t : ltb 128 (length b) ≡ false = le-ltb 128 (length b) l in
-        let u : ltb (length m.frames) 16 ≡ true = lt-ltb (length m.frames) 16 h in
-        let q : m' ≡ record { frames = m.frames ++ (a, b) ∷ []; oldest = m.oldest; next = m.next } = rw (t, u) at e in
-        added l h (ap (λ x. x.frames) q) (ap (λ x. x.oldest) q) (ap (λ x. x.next) q)
-    go (inr l) (inr h) =
-        let t : ltb 128 (length b) ≡ false = le-ltb 128 (length b) l in
-        let u : ltb (length m.frames) 16 ≡ false = le-ltb (length m.frames) 16 h in
-        let q : m' ≡ record { frames = set m.frames m.oldest (a, b); oldest = (m.oldest + 1) % 16; next = m.next } = rw (t, u) at e in
-        replaced l h (ap (λ x. x.frames) q) (ap (λ x. x.oldest) q) (ap (λ x. x.next) q)
 
 unmoved : (m m' : Places) (a : ℕ) (b : List ℕ) → Puts m a b m' → m'.next ≡ m.next
 unmoved m m' a b (lost l h) = ap (λ x. x.next) h

@@ -1,3 +1,2 @@
 mod Ages
-mod Rounds
 mod Turns

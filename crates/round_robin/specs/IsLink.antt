@@ -1,6 +1,6 @@
 -- That frames at 16 places obey the laws of a link.
 -- It stands here because the impl cites it; there is nothing in it that a reader has to believe.
-use Rattle.std.specs.Prelude.{◌≡◌, ℕ, zero, suc, ◌<◌, ◌≤◌, Bool, true, false, ◌⊎◌, List, [], ◌∷◌, length, Some, None, Option, find, ◌==◌, nat_lt, slice_set, refl}
+use Rattle.std.specs.Prelude.{◌≡◌, ℕ, zero, suc, ◌+◌, ◌%◌, ◌<◌, ◌≤◌, Bool, true, false, ◌⊎◌, List, [], ◌∷◌, ◌++◌, length, Some, None, Option, find, ◌==◌, nat_lt, slice_set, refl}
 use Rattle.std.proofs.Common.{sym, ap, ◌∙◌, subst, inl, inr, arith}
 use Rattle.std.proofs.lemmas.Bool.{cases_Bool, cases_lt, eqb-true, ltb-true, lt-ltb, le-ltb, and_parts}
 use Rattle.link.specs.Frames.{Frame, Among, AfterPut, AfterTake}
@@ -18,21 +18,35 @@ among_set f x (y ∷ w) (suc i) (inr m) = go (among_set f x w i m)
     go (inl n) = inl (inr n)
     go (inr e) = inr e
 
-pub after_put : (m m' : Places) (a : ℕ) (b : List ℕ) → m' ≡ round_put m a b → AfterPut m.frames a b m'.frames
-after_put m m' a b e = go (cases_lt 128 (length b)) (cases_Bool (nat_lt (length m.frames) 16))
-  where
-    same : m'.frames ≡ (round_put m a b).frames
-    same = ap (λ (x : Places). x.frames) e
+-- the three ways of a put
+pub data Puts (m : Places) (a : ℕ) (b : List ℕ) (m' : Places) : Type 0 where
+  lost : 128 < length b → m' ≡ m → Puts m a b m'
+  added : length b ≤ 128 → length m.frames < 16 → m'.frames ≡ m.frames ++ (a, b) ∷ [] → m'.oldest ≡ m.oldest → m'.next ≡ m.next → Puts m a b m'
+  replaced : length b ≤ 128 → 16 ≤ length m.frames → m'.frames ≡ slice_set m.frames m.oldest (a, b) → m'.oldest ≡ (m.oldest + 1) % 16 → m'.next ≡ m.next → Puts m a b m'
 
-    go : (128 < length b) ⊎ (length b ≤ 128) → (nat_lt (length m.frames) 16 ≡ true) ⊎ (nat_lt (length m.frames) 16 ≡ false)
-        → AfterPut m.frames a b m'.frames
-    go (inl l) h = let t : nat_lt 128 (length b) ≡ true = lt-ltb 128 (length b) l in put_lost m.frames m'.frames a b (rw t at same)
+pub puts : (m m' : Places) (a : ℕ) (b : List ℕ) → m' ≡ round_put m a b → Puts m a b m'
+puts m m' a b e = go (cases_lt 128 (length b)) (cases_lt (length m.frames) 16)
+  where
+    go : (128 < length b) ⊎ (length b ≤ 128) → (length m.frames < 16) ⊎ (16 ≤ length m.frames) → Puts m a b m'
+    go (inl l) h = let t : nat_lt 128 (length b) ≡ true = lt-ltb 128 (length b) l in lost l (rw t at e)
     go (inr l) (inl h) =
         let t : nat_lt 128 (length b) ≡ false = le-ltb 128 (length b) l in
-        put_kept m.frames m'.frames a b l (λ f k. among_push f (a, b) m.frames (subst (Among f) (rw (t, h) at same) k))
+        let u : nat_lt (length m.frames) 16 ≡ true = lt-ltb (length m.frames) 16 h in
+        let q : m' ≡ record { frames = m.frames ++ (a, b) ∷ []; oldest = m.oldest; next = m.next } = rw (t, u) at e in
+        added l h (ap (λ x. x.frames) q) (ap (λ x. x.oldest) q) (ap (λ x. x.next) q)
     go (inr l) (inr h) =
         let t : nat_lt 128 (length b) ≡ false = le-ltb 128 (length b) l in
-        put_kept m.frames m'.frames a b l (λ f k. among_set f (a, b) m.frames m.oldest (subst (Among f) (rw (t, h) at same) k))
+        let u : nat_lt (length m.frames) 16 ≡ false = le-ltb (length m.frames) 16 h in
+        let q : m' ≡ record { frames = slice_set m.frames m.oldest (a, b); oldest = (m.oldest + 1) % 16; next = m.next } = rw (t, u) at e in
+        replaced l h (ap (λ x. x.frames) q) (ap (λ x. x.oldest) q) (ap (λ x. x.next) q)
+
+pub after_put : (m m' : Places) (a : ℕ) (b : List ℕ) → m' ≡ round_put m a b → AfterPut m.frames a b m'.frames
+after_put m m' a b e = go (puts m m' a b e)
+  where
+    go : Puts m a b m' → AfterPut m.frames a b m'.frames
+    go (lost l h) = put_lost m.frames m'.frames a b (ap (λ x. x.frames) h)
+    go (added l h s o n) = put_kept m.frames m'.frames a b l (λ f k. among_push f (a, b) m.frames (subst (Among f) s k))
+    go (replaced l h s o n) = put_kept m.frames m'.frames a b l (λ f k. among_set f (a, b) m.frames m.oldest (subst (Among f) s k))
 
 -- what a search finds passes its test
 pub found : {X : Type 0} (test : X → Bool) (xs : List X) (x : X) → find test xs ≡ Some x → test x ≡ true

@@ -72,10 +72,10 @@ impl Link for RoundRobin {
         };
         if self.frames.len() < PLACES {
             self.frames.push_reserved(packet);
-            return;
+        } else {
+            self.frames[self.oldest] = packet;
+            self.oldest = after(self.oldest);
         }
-        self.frames[self.oldest] = packet;
-        self.oldest = after(self.oldest);
     }
 
     fn take(&mut self, to: u32, buf: &mut [u8]) -> Result<Option<usize>, Refusal> {
