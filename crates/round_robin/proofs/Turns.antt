@@ -1,38 +1,27 @@
 -- Which frame a take hands out, and what stays.
-use Rattle.std.proofs.Common.{◌≡◌, ℕ, zero, suc, ◌+◌, ◌-◌, ◌%◌, ◌<◌, ◌≤◌, Bool, true, false, ltb, ◌⊎◌, List, [], ◌∷◌, length, get_or, Some, None, Option, eqb, ◌≢◌, find, refl, sym, ap, ◌∙◌, subst, inl, inr, arith}
-use Rattle.std.specs.List.{range_with_len}
+use Rattle.std.proofs.Common.{◌≡◌, ℕ, suc, ◌+◌, ◌-◌, ◌%◌, ◌<◌, ◌≤◌, Bool, false, ltb, ◌⊎◌, List, [], ◌∷◌, length, get_or, Some, None, Option, eqb, ◌≢◌, find, refl, sym, ap, ◌∙◌, subst, inl, inr, arith}
+use Rattle.std.specs.List.{range_with_len, slice_get, position_or_len}
+use Rattle.std.proofs.lemmas.Option.{slice_get_within, slice_get_cases, get_or_from_slice_get}
+use Rattle.std.proofs.lemmas.List.Folds.{find_at}
+use Rattle.std.proofs.lemmas.List.Sums.{fails_before_first}
 use Rattle.std.proofs.lemmas.List.{length-append, get_or_append_left, get_or-append_right}
 use Rattle.std.proofs.lemmas.List.FromFn.{length-range_with_len, get_or-range_with_len}
-use Rattle.std.proofs.lemmas.Bool.{both_ways, cases_Bool, cases_lt, eq-eqb, lt-ltb, and_from}
+use Rattle.std.proofs.lemmas.Bool.{both_ways, cases_lt, eq-eqb, lt-ltb, and_from}
 use Rattle.link.specs.Frames.{Frame, Among, NoneFor}
-use Rattle.round_robin.specs.IsLink.{found, among_at, is_taken}
+use Rattle.round_robin.specs.IsLink.{at_first, found, among_at, is_taken}
 use Rattle.round_robin.specs.Places.{Places, at, is_to, round_from, round, moved, handed, round_take}
 use Rattle.round_robin.specs.Laws.{Turn}
 
--- what a search found, at its place, and that it passed all that stand before
-search_found : (test : ℕ → Bool) (xs : List ℕ) (q : ℕ) → find test xs ≡ Some q
-    → (i : ℕ) × (i < length xs) × (q ≡ get_or xs i 0) × ((k : ℕ) → k < i → test (get_or xs k 0) ≡ false)
-search_found test [] q e = absurd cc
-search_found test (x ∷ xs) q e = go (search_found test xs q) (cases_Bool (test x))
-  where
-    go : (find test xs ≡ Some q → (i : ℕ) × (i < length xs) × (q ≡ get_or xs i 0) × ((k : ℕ) → k < i → test (get_or xs k 0) ≡ false)) → (test x ≡ true) ⊎ (test x ≡ false)
-        → (i : ℕ) × (i < suc (length xs)) × (q ≡ get_or (x ∷ xs) i 0) × ((k : ℕ) → k < i → test (get_or (x ∷ xs) k 0) ≡ false)
-    go more (inl t) = let s : Some x ≡ Some q = rw t at e in (0, omega arith, (cc), λ k l. absurd (omega arith))
-    go more (inr n) = let r = more (rw n at e) in (suc r.0, omega (arith, r.1), r.2, passed r.0 r.3)
-      where
-        passed : (i : ℕ) → ((k : ℕ) → k < i → test (get_or xs k 0) ≡ false) → (k : ℕ) → k < suc i → test (get_or (x ∷ xs) k 0) ≡ false
-        passed i p zero l = n
-        passed i p (suc k) l = p k (omega arith)
-
+-- a search that comes to nothing passes every element
 search_lost : (test : ℕ → Bool) (xs : List ℕ) → find test xs ≡ None → (k : ℕ) → k < length xs → test (get_or xs k 0) ≡ false
-search_lost test [] e k l = absurd (omega arith)
-search_lost test (x ∷ xs) e k l = go (search_lost test xs) (cases_Bool (test x)) k l
+search_lost test xs e k l = go (slice_get_cases xs (position_or_len test xs)).1
   where
-    go : (find test xs ≡ None → (k : ℕ) → k < length xs → test (get_or xs k 0) ≡ false) → (test x ≡ true) ⊎ (test x ≡ false)
-        → (k : ℕ) → k < suc (length xs) → test (get_or (x ∷ xs) k 0) ≡ false
-    go more (inl t) k l = let s : Some x ≡ None = rw t at e in absurd cc
-    go more (inr n) zero l = n
-    go more (inr n) (suc k) l = more (rw n at e) k (omega arith)
+    n : ℕ
+    n = position_or_len test xs
+
+    go : ((x : ℕ) × (n < length xs) × (slice_get xs n ≡ Some x) × (get_or xs n x ≡ x)) ⊎ ((length xs ≤ n) × (slice_get xs n ≡ None)) → test (get_or xs k 0) ≡ false
+    go (inl h) = let s : Some h.0 ≡ None = sym h.2 ∙ sym (find_at test xs) ∙ e in absurd cc
+    go (inr h) = fails_before_first test xs k 0 (omega (arith, h.0))
 
 -- the places of a round, one after another
 module _ (p : ℕ) (begin : p < 16) where
@@ -87,17 +76,18 @@ module _ (m : Places) (size : length m.frames ≤ 16) (begin : m.next < 16) wher
           let past = search_lost (is_to m.frames a) (round_from m.next) e in
           (none_at m.frames a m.next size begin (λ d h. ap (is_to m.frames a) (sym (step m.next begin d h)) ∙ past d (omega (arith, count m.next begin))), refl)
       go (Some p) e =
-          let s = search_found (is_to m.frames a) (round_from m.next) p e in
-          let few : s.0 < 16 = omega (arith, s.1, count m.next begin) in
-          let place : p ≡ (m.next + s.0) % 16 = s.2 ∙ step m.next begin s.0 few in
+          let n = position_or_len (is_to m.frames a) (round_from m.next) in
+          let s = at_first (is_to m.frames a) (round_from m.next) p e in
+          let few : n < 16 = omega (arith, slice_get_within (round_from m.next) n p s, count m.next begin) in
+          let place : p ≡ (m.next + n) % 16 = sym (get_or_from_slice_get (round_from m.next) n p 0 s) ∙ step m.next begin n few in
           let q = is_taken m.frames a p (found (is_to m.frames a) (round_from m.next) p e) in
           let whole : ◌≡◌ {A = Frame} (at m.frames p) (a, (at m.frames p).1) = λ i. (q.1 i, (at m.frames p).1) in
           record {
-            steps = s.0;
+            steps = n;
             few = few;
             taken = omega (arith, place, q.0);
             here = ap (at m.frames) (sym place) ∙ whole;
-            past = λ d h. is_not m.frames a ((m.next + d) % 16) (ap (is_to m.frames a) (sym (step m.next begin d (omega arith))) ∙ s.3 d h);
+            past = λ d h. is_not m.frames a ((m.next + d) % 16) (ap (is_to m.frames a) (sym (step m.next begin d (omega arith))) ∙ fails_before_first (is_to m.frames a) (round_from m.next) d 0 h);
             after = ap (moved m) place;
           }
 

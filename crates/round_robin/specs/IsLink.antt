@@ -2,7 +2,11 @@
 -- It stands here because the impl cites it; there is nothing in it that a reader has to believe.
 use Rattle.std.specs.Prelude.{◌≡◌, ℕ, zero, suc, ◌+◌, ◌%◌, ◌<◌, ◌≤◌, Bool, true, false, ◌⊎◌, List, [], ◌∷◌, ◌++◌, length, Some, None, Option, find, ◌==◌, nat_lt, slice_set, refl}
 use Rattle.std.proofs.Common.{sym, ap, ◌∙◌, subst, inl, inr, arith}
-use Rattle.std.proofs.lemmas.Bool.{cases_Bool, cases_lt, eqb-true, ltb-true, lt-ltb, le-ltb, and_parts}
+use Rattle.std.proofs.lemmas.Bool.{cases_lt, eqb-true, ltb-true, lt-ltb, le-ltb, and_parts}
+use Rattle.std.specs.List.{slice_get, position_or_len}
+use Rattle.std.proofs.lemmas.Option.{slice_get_within, get_or_from_slice_get}
+use Rattle.std.proofs.lemmas.List.Folds.{find_at}
+use Rattle.std.proofs.lemmas.List.Sums.{passes_at_first}
 use Rattle.link.specs.Frames.{Frame, Among, AfterPut, AfterTake}
 use Rattle.link.proofs.Frames.{among_push, put_lost, put_kept}
 use Rattle.round_robin.specs.Places.{Places, at, round_put, is_to, round_from, round, handed, round_take}
@@ -48,14 +52,15 @@ after_put m m' a b e = go (puts m m' a b e)
     go (added l h s o n) = put_kept m.frames m'.frames a b l (λ f k. among_push f (a, b) m.frames (subst (Among f) s k))
     go (replaced l h s o n) = put_kept m.frames m'.frames a b l (λ f k. among_set f (a, b) m.frames m.oldest (subst (Among f) s k))
 
--- what a search finds passes its test
+-- what a search finds, at the first place that passes the test
+pub at_first : {X : Type 0} (test : X → Bool) (xs : List X) (x : X) → find test xs ≡ Some x → slice_get xs (position_or_len test xs) ≡ Some x
+at_first test xs x e = sym (find_at test xs) ∙ e
+
 pub found : {X : Type 0} (test : X → Bool) (xs : List X) (x : X) → find test xs ≡ Some x → test x ≡ true
-found test [] x e = absurd cc
-found test (y ∷ xs) x e = go (found test xs x) (cases_Bool (test y))
-  where
-    go : (find test xs ≡ Some x → test x ≡ true) → (test y ≡ true) ⊎ (test y ≡ false) → test x ≡ true
-    go more (inl t) = let q : Some y ≡ Some x = rw t at e in let s : x ≡ y = cc in ap test s ∙ t
-    go more (inr n) = more (rw n at e)
+found test xs x e =
+    let n = position_or_len test xs in
+    let s = at_first test xs x e in
+    ap test (sym (get_or_from_slice_get xs n x x s)) ∙ passes_at_first test xs x (slice_get_within xs n x s)
 
 pub among_at : (w : List Frame) (p : ℕ) → p < length w → Among (at w p) w
 among_at [] p l = absurd (omega arith)
