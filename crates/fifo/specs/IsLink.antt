@@ -1,38 +1,80 @@
--- That the queue obeys the laws of a link.
+-- What the queue's rules mean, and that it obeys the laws of a link.
 -- It stands here because the impl cites it; there is nothing in it that a reader has to believe.
-use Rattle.std.specs.Prelude.{◌≡◌, ℕ, ◌<◌, ◌≤◌, true, false, ◌⊎◌, List, [], ◌∷◌, length, Option, ◌==◌, nat_le, nat_lt}
-use Rattle.std.proofs.Common.{sym, subst, inl, inr}
-use Rattle.std.proofs.lemmas.Bool.{cases_Bool, cases_lt, eqb-true, lt-ltb, le-ltb}
-use Rattle.link.specs.Frames.{Frame, Among, AfterPut, AfterTake}
-use Rattle.link.proofs.Frames.{among_push, put_lost, put_kept}
+use Rattle.std.specs.Prelude.{◌≡◌, ℕ, ◌<◌, ◌≤◌, true, false, ◌||◌, ◌⊎◌, List, [], ◌∷◌, ◌++◌, length, Some, None, Option, ◌==◌, nat_le, nat_lt, refl}
+use Rattle.std.proofs.Common.{sym, ap, ◌∙◌, subst, inl, inr}
+use Rattle.std.proofs.lemmas.Bool.{both_ways, cases_Bool, cases_lt, eqb-true, eq-eqb, or_left, or_right, or_from, lt-ltb, le-ltb, le-leb, lt-leb}
+use Rattle.link.specs.Frames.{Frame, Among, NoneFor, AfterPut, AfterTake}
+use Rattle.link.proofs.Frames.{among_push, among_mid, among_more, put_lost, put_kept}
 use Rattle.fifo.specs.Queues.{fifo_put, fifo_take}
+use Rattle.fifo.specs.Laws.{OldestOf}
 
-pub after_put : (w w' : List Frame) (a : ℕ) (b : List ℕ) → w' ≡ fifo_put w a b → AfterPut w a b w'
-after_put w w' a b e = go (cases_lt 128 (length b)) (cases_Bool (nat_le 64 (length w)))
+-- what a put leaves
+module _ (w w' : List Frame) (a : ℕ) (b : List ℕ) (e : w' ≡ fifo_put w a b) where
+  lost : (nat_lt 128 (length b) || nat_le 64 (length w)) ≡ true → w' ≡ w
+  lost t = e ∙ rw t refl
+
+  kept : (nat_lt 128 (length b) || nat_le 64 (length w)) ≡ false → w' ≡ w ++ (a, b) ∷ []
+  kept n = e ∙ rw n refl
+
+  pub appended : length b ≤ 128 → length w < 64 → w' ≡ w ++ (a, b) ∷ []
+  appended l m = kept (or_from (nat_lt 128 (length b)) (nat_le 64 (length w)) (le-ltb 128 (length b) l) (lt-leb 64 (length w) m))
+
+  pub full : 64 ≤ length w → w' ≡ w
+  full l = lost (or_right (nat_lt 128 (length b)) (nat_le 64 (length w)) (le-leb 64 (length w) l))
+
+  pub too_long : 128 < length b → w' ≡ w
+  too_long l = lost (or_left (nat_lt 128 (length b)) (nat_le 64 (length w)) (lt-ltb 128 (length b) l))
+
+  pub after_put : AfterPut w a b w'
+  after_put = go (cases_lt 128 (length b)) (cases_lt (length w) 64)
+    where
+      go : (128 < length b) ⊎ (length b ≤ 128) → (length w < 64) ⊎ (64 ≤ length w) → AfterPut w a b w'
+      go (inl l) h = put_lost w w' a b (too_long l)
+      go (inr l) (inl h) = put_kept w w' a b l (λ f m. among_push f (a, b) w (subst (Among f) (appended l h) m))
+      go (inr l) (inr h) = put_lost w w' a b (full h)
+
+-- what a take that answered o means
+abbrev pub Means : List Frame → ℕ → Option (List ℕ) → List Frame → Type 0
+Means w a None w' = NoneFor a w × (w' ≡ w)
+Means w a (Some b) w' = OldestOf w a b w'
+
+other : (f : Frame) (w : List Frame) (a : ℕ) → (f.0 == a) ≡ false → NoneFor a w → NoneFor a (f ∷ w)
+other f w a n none b (inl e) = both_ways (f.0 == a) n (eq-eqb f.0 a (ap (λ x. x.0) (sym e)))
+other f w a n none b (inr m) = none b m
+
+later : (f : Frame) (w w' : List Frame) (a : ℕ) (o : Option (List ℕ)) → (f.0 == a) ≡ false → Means w a o w' → Means (f ∷ w) a o (f ∷ w')
+later f w w' a None n (none, e) = (other f w a n none, ap (λ v. f ∷ v) e)
+later f w w' a (Some b) n s = record {
+  before = f ∷ s.before;
+  after = s.after;
+  split = ap (λ v. f ∷ v) s.split;
+  first = other f s.before a n s.first;
+  others = ap (λ v. f ∷ v) s.others;
+}
+
+means : (w : List Frame) (a : ℕ) → Means w a (fifo_take w a).0 (fifo_take w a).1
+means [] a = (λ b m. m, refl)
+means (f ∷ w) a = go (means w a) (cases_Bool (f.0 == a))
   where
-    go : (128 < length b) ⊎ (length b ≤ 128) → (nat_le 64 (length w) ≡ true) ⊎ (nat_le 64 (length w) ≡ false)
-        → AfterPut w a b w'
-    go (inl l) h = let t : nat_lt 128 (length b) ≡ true = lt-ltb 128 (length b) l in put_lost w w' a b (rw t at e)
-    go (inr l) (inl h) = let t : nat_lt 128 (length b) ≡ false = le-ltb 128 (length b) l in put_lost w w' a b (rw (t, h) at e)
-    go (inr l) (inr h) =
-        let t : nat_lt 128 (length b) ≡ false = le-ltb 128 (length b) l in
-        put_kept w w' a b l (λ f m. among_push f (a, b) w (subst (Among f) (rw (t, h) at e) m))
+    go : Means w a (fifo_take w a).0 (fifo_take w a).1 → ((f.0 == a) ≡ true) ⊎ ((f.0 == a) ≡ false) → Means (f ∷ w) a (fifo_take (f ∷ w) a).0 (fifo_take (f ∷ w) a).1
+    go more (inl t) =
+        let e : f.0 ≡ a = eqb-true f.0 a t in
+        rw t (record { before = []; after = w; split = λ i. (e i, f.1) ∷ w; first = λ b m. m; others = refl })
+    go more (inr n) = rw n (later f w (fifo_take w a).1 a (fifo_take w a).0 n more)
 
-taken : (w : List Frame) (a : ℕ) → AfterTake w a (fifo_take w a).0 (fifo_take w a).1
-taken [] a = record { waited = λ b e. absurd cc; still = λ f m. m }
-taken (x ∷ w) a = go (taken w a) (cases_Bool (x.0 == a))
-  where
-    here : (b : List ℕ) → x.0 ≡ a → x.1 ≡ b → (a, b) ≡ x
-    here b p q = λ i. (sym p i, sym q i)
+pub waited : (w w' : List Frame) (a : ℕ) (b : List ℕ) → OldestOf w a b w' → Among (a, b) w
+waited w w' a b s = subst (Among (a, b)) (sym s.split) (among_mid (a, b) s.before s.after)
 
-    later : (v : List Frame) → ((f : Frame) → Among f v → Among f w) → (f : Frame) → Among f (x ∷ v) → Among f (x ∷ w)
-    later v more f (inl e) = inl e
-    later v more f (inr m) = inr (more f m)
+module _ (w w' : List Frame) (a : ℕ) (o : Option (List ℕ)) (e : (o, w') ≡ fifo_take w a) where
+  pub took : Means w a o w'
+  took = subst (λ (r : Option (List ℕ) × List Frame). Means w a r.0 r.1) (sym e) (means w a)
 
-    go : AfterTake w a (fifo_take w a).0 (fifo_take w a).1 → ((x.0 == a) ≡ true) ⊎ ((x.0 == a) ≡ false)
-        → AfterTake (x ∷ w) a (fifo_take (x ∷ w) a).0 (fifo_take (x ∷ w) a).1
-    go more (inl t) = rw t (record { waited = λ b e. inl (here b (eqb-true x.0 a t) cc); still = λ f m. inr m })
-    go more (inr n) = rw n (record { waited = λ b e. inr (more.waited b e); still = later _ more.still })
-
-pub after_take : (w w' : List Frame) (a : ℕ) (o : Option (List ℕ)) → (o, w') ≡ fifo_take w a → AfterTake w a o w'
-after_take w w' a o e = subst (λ (r : Option (List ℕ) × List Frame). AfterTake w a r.0 r.1) (sym e) (taken w a)
+  pub after_take : AfterTake w a o w'
+  after_take = go o took
+    where
+      go : (p : Option (List ℕ)) → Means w a p w' → AfterTake w a p w'
+      go None (none, s) = record { waited = λ b q. absurd cc; still = λ f m. subst (Among f) s m }
+      go (Some b) s = record {
+        waited = λ c q. let same : b ≡ c = cc in subst (λ (x : List ℕ). Among (a, x) w) same (waited w w' a b s);
+        still = λ f m. subst (Among f) (sym s.split) (among_more f (a, b) s.before s.after (subst (Among f) s.others m));
+      }

@@ -20,6 +20,15 @@ among_push f x (y ∷ w) (inr m) = go (among_push f x w m)
     go (inl n) = inl (inr n)
     go (inr e) = inr e
 
+pub among_mid : (x : Frame) (u v : List Frame) → Among x (u ++ x ∷ v)
+among_mid x [] v = inl refl
+among_mid x (y ∷ u) v = inr (among_mid x u v)
+
+pub among_more : (f x : Frame) (u v : List Frame) → Among f (u ++ v) → Among f (u ++ x ∷ v)
+among_more f x [] v m = inr m
+among_more f x (y ∷ u) v (inl e) = inl e
+among_more f x (y ∷ u) v (inr m) = inr (among_more f x u v m)
+
 -- a put that is lost, and one that may be kept
 pub put_lost : (w w' : List Frame) (a : ℕ) (b : List ℕ) → w' ≡ w → AfterPut w a b w'
 put_lost w w' a b e f m = inl (subst (Among f) e m)
