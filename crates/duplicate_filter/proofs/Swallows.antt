@@ -1,12 +1,12 @@
 -- What the filter's rule means.
-use Rattle.std.proofs.Common.{◌≡◌, ℕ, Bool, eqb, ◌&&◌, map, refl, true, false, ◌⊎◌, List, [], ◌∷◌, ◌++◌, take, Some, None, Ok, vec_items, Option, sym, ap, ◌∙◌, subst, inl, inr, append_assoc, append-nil, arith}
+use Rattle.std.proofs.Common.{◌≡◌, ℕ, Bool, map, refl, true, false, ◌⊎◌, List, [], ◌∷◌, ◌++◌, Some, None, vec_items, Option, sym, ap, ◌∙◌, subst, inl, inr, append_assoc, append-nil, arith}
 use Rattle.std.specs.List.{list_any}
 use Rattle.std.proofs.lemmas.List.{length-map}
 use Rattle.std.proofs.lemmas.Bool.{both_ways, cases_Bool}
 use Rattle.link.specs.declared.Link as link
 use Rattle.link.specs.declared.packet.Packet.{Packet}
-use Rattle.link.proofs.Frames.{same_bytes}
-use Rattle.link.specs.Frames.{Frame, Among, Taken}
+use Rattle.link.proofs.Frames.{equal}
+use Rattle.link.specs.Frames.{Frame, Among}
 use Rattle.link.specs.Laws.{Call, Put, Take, frames_taken, Run}
 use Rattle.link.specs.Packets.{frame_of, Packed}
 use Rattle.duplicate_filter.specs.declared.filter.DuplicateFilter.{DuplicateFilter}
@@ -24,24 +24,17 @@ module _ (xs : List Packet) (a : ℕ) (b : List ℕ) (r : Option Packet) (x : Pa
   framed : frame_of x ≡ (a, b)
   framed = (subst (Packed a b) is p).1
 
-  sought : (t : Bool) → t ≡ list_any (λ y. eqb y.to x.to && same_bytes 128 y.bytes x.bytes) xs → seen (a, b) (map frame_of xs) ≡ t
+  sought : (t : Bool) → t ≡ list_any (λ y. equal y x) xs → seen (a, b) (map frame_of xs) ≡ t
   sought t e = ap (λ f. seen f (map frame_of xs)) (sym framed) ∙ sym (e ∙ seen_from_contains xs x)
 
-  pub repeats : true ≡ list_any (λ y. eqb y.to x.to && same_bytes 128 y.bytes x.bytes) xs → ◌≡◌ {A = Outcome} (None, map frame_of xs) (filtered (map frame_of xs) a (Some b))
+  pub repeats : true ≡ list_any (λ y. equal y x) xs → ◌≡◌ {A = Outcome} (None, map frame_of xs) (filtered (map frame_of xs) a (Some b))
   repeats e = let t : seen (a, b) (map frame_of xs) ≡ true = sought true e in rw t refl
 
-  pub passes : (rs' : List Frame) (c : List ℕ) → false ≡ list_any (λ y. eqb y.to x.to && same_bytes 128 y.bytes x.bytes) xs → c ≡ (frame_of x).1 → rs' ≡ last_eight (map frame_of xs ++ frame_of x ∷ [])
+  pub passes : (rs' : List Frame) (c : List ℕ) → false ≡ list_any (λ y. equal y x) xs → c ≡ (frame_of x).1 → rs' ≡ last_eight (map frame_of xs ++ frame_of x ∷ [])
       → ◌≡◌ {A = Outcome} (Some c, rs') (filtered (map frame_of xs) a (Some b))
   passes rs' c e h q =
       let n : seen (a, b) (map frame_of xs) ≡ false = sought false e in
       rw n (λ i. (Some ((h ∙ ap (λ f. f.1) framed) i), (q ∙ ap (λ f. last_eight (map frame_of xs ++ f ∷ [])) framed) i))
-
--- what the inner link handed out
-pub inner_took : {L : Type 0} (K : link.Ghosts L) (j j' : L) (a n : ℕ) (buf buf' : List ℕ) (o : Option ℕ) → o ≡ Some n → Taken K.takes j a buf (Ok o) buf' j' → K.takes j a (Some (take n buf')) j'
-inner_took K j j' a n buf buf' None e t = let z : ◌≡◌ {A = ℕ} 0 1 = cc in absurd (omega arith)
-inner_took K j j' a n buf buf' (Some k) e t =
-    let same : k ≡ n = cc in
-    subst (λ (m : ℕ). K.takes j a (Some (take m buf')) j') same t.2
 
 -- the two ways of an inner frame
 data Ways (rs : List Frame) (a : ℕ) (b : List ℕ) (o : Option (List ℕ)) (rs' : List Frame) : Type 0 where
@@ -61,11 +54,11 @@ ways rs rs' a b o e = go (cases_Bool (seen (a, b) rs))
 
 module _ {L : Type 0} (K : link.Ghosts L) where
   passed : (l l' : DuplicateFilter L) (a : ℕ) (b : List ℕ) → FilterTakes K l a (Some b) l' → Passed K l a b l'
-  passed l l' a b (None, t, e) = let h : Some b ≡ None = ap (λ r. r.0) e in let z : ◌≡◌ {A = ℕ} 0 1 = cc in absurd (omega arith)
+  passed l l' a b (None, t, e) = let h : Some b ≡ None = ap (λ r. r.0) e in absurd cc
   passed l l' a b (Some d, t, e) = go (ways (recent_of l) (recent_of l') a d (Some b) e)
     where
       go : Ways (recent_of l) a d (Some b) (recent_of l') → Passed K l a b l'
-      go (old m h r) = let z : ◌≡◌ {A = ℕ} 0 1 = cc in absurd (omega arith)
+      go (old m h r) = absurd cc
       go (fresh n h r) =
           let s : d ≡ b = cc in
           record {
@@ -80,7 +73,7 @@ module _ {L : Type 0} (K : link.Ghosts L) where
     where
       go : Ways (recent_of l) a d None (recent_of l') → Swallowed K l a l'
       go (old m h r) = record { inner = inr (d, m, t); stay = r }
-      go (fresh n h r) = let z : ◌≡◌ {A = ℕ} 0 1 = cc in absurd (omega arith)
+      go (fresh n h r) = absurd cc
 
   -- the last eight of the frames h that were handed out, and of those that the calls hand out after them
   last : (h : List Frame) (l l' : DuplicateFilter L) (cs : List Call) → recent_of l ≡ last_eight h → Run (filter_waiting K) (FilterPuts K) (FilterTakes K) l cs l' → recent_of l' ≡ last_eight (h ++ frames_taken cs)

@@ -55,11 +55,14 @@ module _ (p : Packet) (buf buf' : List ℕ) (n : ℕ) (room : 128 ≤ length buf
 abbrev pub same_bytes : ℕ → List ℕ → List ℕ → Bool
 same_bytes n xs ys = pointwise eqb (filled n 0 xs) (filled n 0 ys) && eqb (length xs) (length ys)
 
+abbrev pub equal : Packet → Packet → Bool
+equal p q = eqb p.to q.to && same_bytes 128 p.bytes q.bytes
+
 same_bytes-Decides : (n : ℕ) (xs ys : List ℕ) → Decides (same_bytes n xs ys) (xs ≡ ys)
 same_bytes-Decides n xs ys =
     Decides-like (same_bytes n xs ys) (λ (e, l). sym (front_filled n 0 xs _ refl) ∙ (λ i. take (l i) (e i)) ∙ front_filled n 0 ys _ refl) (λ e. (ap (filled n 0) e, ap length e))
     (Decides-and _ _ (slice_eq-Decides Decides-eqb (filled n 0 xs) (filled n 0 ys) _ refl) (Decides-eqb (length xs) (length ys)))
 
-pub same : (p q : Packet) → Decides (eqb p.to q.to && same_bytes 128 p.bytes q.bytes) (frame_of p ≡ frame_of q)
+pub same : (p q : Packet) → Decides (equal p q) (frame_of p ≡ frame_of q)
 same p q =
-    Decides-like _ (λ (a, b). λ i. (a i, b i)) (λ e. (ap (λ f. f.0) e, ap (λ f. f.1) e)) (Decides-and _ _ (Decides-eqb p.to q.to) (same_bytes-Decides 128 p.bytes q.bytes))
+    Decides-like (equal p q) (λ (a, b). λ i. (a i, b i)) (λ e. (ap (λ f. f.0) e, ap (λ f. f.1) e)) (Decides-and _ _ (Decides-eqb p.to q.to) (same_bytes-Decides 128 p.bytes q.bytes))
