@@ -1,9 +1,10 @@
 -- Frames that were handed out lately.
-use Rattle.std.proofs.Common.{◌≡◌, ◌+◌, ◌-◌, ◌||◌, List, [], ◌∷◌, ◌++◌, map, length, drop, Decides, sym, refl, ap, ◌∙◌, arith}
+use Rattle.std.proofs.Common.{◌≡◌, ℕ, ◌+◌, ◌-◌, ◌||◌, List, [], ◌∷◌, ◌++◌, map, length, drop, Decides, sym, refl, ap, ◌∙◌, arith}
 use Rattle.std.specs.List.{list_any}
 use Rattle.std.proofs.lemmas.Slice.Eq.{bytes_eq-Decides}
-use Rattle.std.proofs.lemmas.List.{length_push, length-drop, drop-drop, drop-append-le}
+use Rattle.std.proofs.lemmas.List.{length-map, length_push, map_push, drop-map, length-drop, drop-drop, drop-append-le}
 use Rattle.std.proofs.lemmas.Bool.Decides.{same_from_decides, Decides-and, Decides-or, Decides-eqb, Decides-like}
+use Rattle.circular_buffer.specs.Buffer.{Buffer, buffer, keep_last}
 use Rattle.link.specs.declared.packet.Packet.{Packet}
 use Rattle.link.specs.Frames.{Frame, Among}
 use Rattle.link.specs.Packets.{frame_of}
@@ -33,3 +34,9 @@ last_push h x =
     let whole : drop k h ++ x ∷ [] ≡ drop k (h ++ x ∷ []) = sym (drop-append-le k h (x ∷ []) (omega arith)) in
     let count : k + (length (drop k (h ++ x ∷ [])) - 8) ≡ length (h ++ x ∷ []) - 8 = omega (arith, length-drop k (h ++ x ∷ []), length_push h x) in
     ap last_eight whole ∙ drop-drop (length (drop k (h ++ x ∷ [])) - 8) k (h ++ x ∷ []) ∙ ap (λ n. drop n (h ++ x ∷ [])) count
+
+-- the frames that are remembered once a packet is pushed
+pub noted : (xs : List Packet) (n : ℕ) (x : Packet) (b : Buffer Packet) → n ≡ 8 → b ≡ buffer (keep_last n (xs ++ x ∷ [])) n → map frame_of b.items ≡ last_eight (map frame_of xs ++ frame_of x ∷ [])
+noted xs n x b e q =
+    let k : length (xs ++ x ∷ []) - n ≡ length (map frame_of xs ++ frame_of x ∷ []) - 8 = omega (arith, length_push xs x, length_push (map frame_of xs) (frame_of x), length-map xs frame_of) in
+    ap (λ c. map frame_of c.items) q ∙ sym (drop-map frame_of (length (xs ++ x ∷ []) - n) (xs ++ x ∷ [])) ∙ (λ i. drop (k i) (map_push frame_of xs x i))

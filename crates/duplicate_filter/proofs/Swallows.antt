@@ -1,5 +1,5 @@
 -- What the filter's rule means.
-use Rattle.std.proofs.Common.{◌≡◌, ℕ, Bool, map, refl, true, false, ◌⊎◌, List, [], ◌∷◌, ◌++◌, Some, None, vec_items, Option, sym, ap, ◌∙◌, subst, inl, inr, append_assoc, append-nil, arith}
+use Rattle.std.proofs.Common.{◌≡◌, ℕ, Bool, map, refl, true, false, ◌⊎◌, List, [], ◌∷◌, ◌++◌, Some, None, Option, sym, ap, ◌∙◌, subst, inl, inr, append_assoc, append-nil, arith}
 use Rattle.std.specs.List.{list_any}
 use Rattle.std.proofs.lemmas.List.{length-map}
 use Rattle.std.proofs.lemmas.Bool.{both_ways, cases_Bool}
@@ -97,6 +97,6 @@ module _ {L : Type 0} (K : link.Ghosts L) where
     passed = passed;
     swallowed = swallowed;
     last = λ l l' cs e. last [] l l' cs e;
-    bound = λ l. omega (arith, length-map (vec_items l.recent) frame_of, l.recent.ok.0, l.size);
+    bound = λ l. omega (arith, length-map l.recent.items frame_of, l.size);
     one_take = one_take;
   }

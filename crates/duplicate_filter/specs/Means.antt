@@ -1,5 +1,5 @@
 -- What a filter over a link means as a link.
-use Rattle.std.specs.Prelude.{◌≡◌, ℕ, List, map, vec_items, Option}
+use Rattle.std.specs.Prelude.{◌≡◌, ℕ, List, map, Option}
 use Rattle.link.specs.declared.Link as link
 use Rattle.link.specs.Frames.{Frame}
 use Rattle.link.specs.Packets.{frame_of}
@@ -8,7 +8,7 @@ use Rattle.duplicate_filter.specs.Repeats.{filtered}
 
 -- the last frames handed out, the oldest first
 abbrev pub recent_of : {L : Type 0} → DuplicateFilter L → List Frame
-recent_of l = map frame_of (vec_items l.recent)
+recent_of l = map frame_of l.recent.items
 
 module _ {L : Type 0} (K : link.Ghosts L) where
   abbrev pub filter_waiting : DuplicateFilter L → List Frame

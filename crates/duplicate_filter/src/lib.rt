@@ -10,6 +10,7 @@ ghost use Rattle.duplicate_filter.specs.IsLink.{after_take};
 pub mod filter;
 pub mod laws;
 
+use circular_buffer::HeapCircularBuffer;
 use filter::{DuplicateFilter, REMEMBERED};
 use link::packet::{LONGEST, Packet};
 use link::{Link, check_room};
@@ -21,21 +22,8 @@ impl<L: Drop> DuplicateFilter<L> {
     pub fn new(heap: Global, inner: L) -> Result<DuplicateFilter<L>, AllocError>
         ensures { IfOk result (λ l. (l.inner ≡ inner) × (recent_of l ≡ [])) }
     {
-        let recent = Vec::with_capacity(heap, REMEMBERED)?;
+        let recent = HeapCircularBuffer::with_capacity(heap, REMEMBERED)?;
         Ok(DuplicateFilter { inner, recent })
-    }
-}
-
-impl<L> DuplicateFilter<L> {
-    // Notes that the packet is handed out.
-    fn note(&mut self, packet: Packet)
-        ensures inner { self.new.inner ≡ self.old.inner }
-        ensures recent { recent_of self.new ≡ last_eight (recent_of self.old ++ frame_of packet ∷ []) }
-    {
-        if self.recent.len() >= REMEMBERED {
-            let _oldest = self.recent.remove(0);
-        }
-        self.recent.push_reserved(packet);
     }
 }
 
@@ -62,10 +50,10 @@ impl<L: Link> Link for DuplicateFilter<L> {
             return Ok(None);
         };
         let packet = Packet::new(to, &own[..n]).unwrap();
-        if self.recent.contains(&packet) {
+        if self.recent.iter().any(|other| *other == packet) {
             return Ok(None);
         }
-        self.note(packet);
+        let _oldest = self.recent.push_back(packet);
         Ok(Some(packet.fill(buf)))
     }
 }
