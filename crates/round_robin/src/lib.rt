@@ -35,7 +35,7 @@ fn turn(frames: &[Packet], to: u32, from: usize) -> Option<usize>
 }
 
 // The place after this one, round.
-fn after(place: usize) -> usize
+fn place_after(place: usize) -> usize
     requires { place < PLACES }
     ensures { result ≡ (place + 1) % PLACES }
 {
@@ -74,7 +74,7 @@ impl Link for RoundRobin {
             self.frames.push_reserved(packet);
         } else {
             self.frames[self.oldest] = packet;
-            self.oldest = after(self.oldest);
+            self.oldest = place_after(self.oldest);
         }
     }
 
@@ -84,7 +84,7 @@ impl Link for RoundRobin {
             return Ok(None);
         };
         let packet = self.frames[p];
-        self.next = after(p);
+        self.next = place_after(p);
         Ok(Some(packet.fill(buf)))
     }
 }
