@@ -63,14 +63,6 @@ impl Hashed {
             capacity,
         })
     }
-
-    // The row of the key, if it is held.
-    fn find(&self, key: u32) -> Option<Row>
-        ensures { result ≡ (hashed_table self.now).look key }
-    {
-        let p = place(&self.slots, key);
-        self.slots[p].row(key)
-    }
 }
 
 impl Store for Hashed {
@@ -78,12 +70,9 @@ impl Store for Hashed {
 
     ghost counted = { counts };
 
-    fn get(&self, key: u32) -> Row {
-        self.find(key).unwrap_or(Row::null())
-    }
-
-    fn holds(&self, key: u32) -> bool {
-        self.find(key).is_some()
+    fn find(&self, key: u32) -> Option<Row> {
+        let p = place(&self.slots, key);
+        self.slots[p].row(key)
     }
 
     fn put(&mut self, key: u32, row: Row) -> Result<(), Refusal> {

@@ -2,17 +2,19 @@
 #![tactic(auto)]
 
 ghost use Rattle.std.specs.Prelude.{◌≡◌, ℕ, ◌+◌};
+ghost use Rattle.either.specs.Either.{either};
+ghost use Rattle.either.specs.declared.Either.TheVariants.{Left, Right};
 ghost use Rattle.store.specs.Table.{Table, Put, Counted, has, row_of, null_row};
-ghost use Rattle.store.specs.Kinds.{either_table};
-ghost use Rattle.store.specs.declared.Either.TheVariants.{Left, Right};
 
 pub mod laws;
 
+pub use either::Either;
+use either::for_both;
 use values::refusal::Refusal;
 use values::timestamp::Timestamp;
 
 // The value of a key, the version that wrote it, and the latest transaction that read it.
-#[derive(Clone, Copy)]
+#[derive(Clone, Copy, PartialEq, Eq)]
 pub struct Row {
     pub value: Option<u32>,
     pub version: Timestamp,
@@ -36,12 +38,22 @@ impl Row {
 pub trait Store {
     ghost table: { Self → Table };
 
-    // The null row for a key that is not held.
-    fn get(&self, key: u32) -> Row
-        ensures { result ≡ row_of (table self.now) key };
+    // The row of the key, if it is held.
+    fn find(&self, key: u32) -> Option<Row>
+        ensures { result ≡ (table self.now).look key };
 
-    fn holds(&self, key: u32) -> bool
-        ensures { result ≡ has (table self.now) key };
+    // The null row for a key that is not held.
+    final fn get(&self, key: u32) -> Row
+        ensures { result ≡ row_of (table self.now) key }
+    {
+        self.find(key).unwrap_or(Row::null())
+    }
+
+    final fn holds(&self, key: u32) -> bool
+        ensures { result ≡ has (table self.now) key }
+    {
+        self.find(key).is_some()
+    }
 
     fn put(&mut self, key: u32, row: Row) -> Result<(), Refusal>
         ensures { Put (table self.old) key row result (table self.new) };
@@ -54,42 +66,20 @@ pub trait Store {
 }
 
 // A store of one of two kinds.
-#[derive(Drop)]
-pub enum Either<L, R> {
-    Left(L),
-    Right(R),
-}
-
 impl<L: Store, R: Store> Store for Either<L, R> {
-    ghost table = { either_table L.table R.table };
+    ghost table = { either L.table R.table };
 
     ghost counted = { elim [ Left s ↦ L.counted s | Right s ↦ R.counted s ] };
 
-    fn get(&self, key: u32) -> Row {
-        match self {
-            Either::Left(s) => s.get(key),
-            Either::Right(s) => s.get(key),
-        }
-    }
-
-    fn holds(&self, key: u32) -> bool {
-        match self {
-            Either::Left(s) => s.holds(key),
-            Either::Right(s) => s.holds(key),
-        }
+    fn find(&self, key: u32) -> Option<Row> {
+        for_both!(self, s => s.find(key))
     }
 
     fn put(&mut self, key: u32, row: Row) -> Result<(), Refusal> {
-        match self {
-            Either::Left(s) => s.put(key, row),
-            Either::Right(s) => s.put(key, row),
-        }
+        for_both!(self, s => s.put(key, row))
     }
 
     fn free(&self) -> usize {
-        match self {
-            Either::Left(s) => s.free(),
-            Either::Right(s) => s.free(),
-        }
+        for_both!(self, s => s.free())
     }
 }

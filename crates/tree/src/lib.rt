@@ -63,17 +63,6 @@ impl Tree {
         }
         p
     }
-
-    // The row of the key, if it is held.
-    fn find(&self, key: u32) -> Option<Row>
-        ensures { result ≡ (tree_table self.now).look key }
-    {
-        if self.held == 0 {
-            return None;
-        }
-        let p = self.place(key);
-        self.nodes[p].row(key)
-    }
 }
 
 impl Store for Tree {
@@ -81,12 +70,12 @@ impl Store for Tree {
 
     ghost counted = { counts };
 
-    fn get(&self, key: u32) -> Row {
-        self.find(key).unwrap_or(Row::null())
-    }
-
-    fn holds(&self, key: u32) -> bool {
-        self.find(key).is_some()
+    fn find(&self, key: u32) -> Option<Row> {
+        if self.held == 0 {
+            return None;
+        }
+        let p = self.place(key);
+        self.nodes[p].row(key)
     }
 
     fn put(&mut self, key: u32, row: Row) -> Result<(), Refusal> {

@@ -1,7 +1,7 @@
 use Rattle.std.proofs.Common.{sym, ap, ◌∙◌}
 use Rattle.hashed.specs.Places.{at, row_at}
 use Rattle.hashed.proofs.Storing.{found}
-use Rattle.hashed.proofs.table.Hashed.find.Goals as goal
+use Rattle.hashed.proofs.HashedStore.find.Goals as goal
 
 pub returns : goal.returns
 returns c =

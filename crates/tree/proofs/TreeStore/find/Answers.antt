@@ -1,6 +1,6 @@
 use Rattle.std.proofs.Common.{◌∙◌, rules}
 use Rattle.tree.proofs.Growing.{spot, found}
-use Rattle.tree.proofs.arena.Tree.find.Goals as goal
+use Rattle.tree.proofs.TreeStore.find.Goals as goal
 
 pub returns : goal.returns
 returns c =
