@@ -1,11 +1,10 @@
 -- Searches among the places, one step on and after a slot is set.
-use Rattle.std.proofs.Common.{◌≡◌, ℕ, zero, suc, ◌+◌, ◌-◌, ◌%◌, ◌<◌, ◌≤◌, true, false, cond, eqb, ◌≢◌, ◌⊎◌, List, [], ◌∷◌, length, set, Some, None, refl, sym, ap, ◌∙◌, subst, inl, inr, arith}
+use Rattle.std.proofs.Common.{◌≡◌, ℕ, zero, suc, ◌+◌, ◌-◌, ◌%◌, ◌<◌, ◌≤◌, true, false, cond, eqb, ◌≢◌, ◌⊎◌, List, [], ◌∷◌, length, set, is_some, Some, None, Option, option_map, unwrap_or, map, refl, sym, ap, ◌∙◌, subst, inl, inr, arith}
+use Rattle.std.specs.List.{range_with_len, find as first_of}
 use Rattle.std.proofs.lemmas.List.{get_or-set_same, get_or-set_other}
 use Rattle.std.proofs.lemmas.Bool.{both_ways, cases_eq, cases_lt, cases_Bool, eqb-true, eq-eqb, ne_eqb}
 use Rattle.store.specs.declared.Row.{Row}
-use Rattle.hashed.specs.declared.slot.Slot.{Slot}
-use Rattle.hashed.specs.declared.slot.Slot.TheVariants.{Empty, Holds}
-use Rattle.hashed.specs.Places.{at, vacant, keyed, stops, seek, find, taken, Reached, place_of, home_of}
+use Rattle.hashed.specs.Places.{Slot, at, holding, keyed, stops, seek, find, taken, Reached, place_of, home_of}
 use Rattle.hashed.specs.Laws.{Search}
 
 pub seek_stop : (xs : List Slot) (k n p : ℕ) → stops (at xs p) k ≡ true → seek xs k (suc n) p ≡ p
@@ -20,19 +19,41 @@ pub seek_end : (xs : List Slot) (k p : ℕ) → seek xs k zero p ≡ p
 unfolding seek
 seek_end xs k p = refl
 
--- the steps of a loop that counts to 128
-pub loop_stop : (xs : List Slot) (k i p : ℕ) → i < 128 → stops (at xs p) k ≡ true → seek xs k (128 - i) p ≡ p
-loop_stop xs k i p h s = let e : 128 - i ≡ suc (127 - i) = omega arith in rw e (seek_stop xs k (127 - i) p s)
+-- n places in turn, from the one a places after s on
+abbrev pub round : ℕ → ℕ → ℕ → List ℕ
+round s a n = map (λ i. (s + i) % 128) (range_with_len a n)
 
-pub loop_go : (xs : List Slot) (k i p : ℕ) → i < 128 → stops (at xs p) k ≡ false → seek xs k (128 - i) p ≡ seek xs k (128 - (i + 1)) ((p + 1) % 128)
-loop_go xs k i p h s = let e : 128 - i ≡ suc (128 - (i + 1)) = omega arith in rw e (seek_go xs k (128 - (i + 1)) p s)
+seek_round : (xs : List Slot) (k s a n : ℕ) → seek xs k n ((s + a) % 128) ≡ unwrap_or (first_of (λ p. stops (at xs p) k) (round s a n)) ((s + (a + n)) % 128)
+seek_round xs k s a zero = seek_end xs k ((s + a) % 128) ∙ omega arith
+seek_round xs k s a (suc n) = go (cases_Bool (stops (at xs ((s + a) % 128)) k)) (seek_round xs k s (a + 1) n)
+  where
+    go : (stops (at xs ((s + a) % 128)) k ≡ true) ⊎ (stops (at xs ((s + a) % 128)) k ≡ false)
+        → seek xs k n ((s + (a + 1)) % 128) ≡ unwrap_or (first_of (λ p. stops (at xs p) k) (round s (a + 1) n)) ((s + (a + 1 + n)) % 128)
+        → seek xs k (suc n) ((s + a) % 128) ≡ unwrap_or (first_of (λ p. stops (at xs p) k) (round s a (suc n))) ((s + (a + suc n)) % 128)
+    go (inl t) e = seek_stop xs k n ((s + a) % 128) t ∙ rw t refl
+    go (inr f) e =
+        let on : ((s + a) % 128 + 1) % 128 ≡ (s + (a + 1)) % 128 = omega arith in
+        let far : (s + (a + 1 + n)) % 128 ≡ (s + (a + suc n)) % 128 = omega arith in
+        seek_go xs k n ((s + a) % 128) f ∙ rw (on, f, ← far) e
 
-pub loop_end : (xs : List Slot) (k i p : ℕ) → 128 ≤ i → seek xs k (128 - i) p ≡ p
-loop_end xs k i p h = let e : 128 - i ≡ 0 = omega arith in rw e (seek_end xs k p)
+-- the first place of all, from the key's first one round, where the search stops
+pub first_place : (xs : List Slot) (k : ℕ) (r : Option ℕ) → option_map (λ p. p) r ≡ first_of (λ p. stops (at xs p) k) (round (home_of k) 0 128)
+    → unwrap_or r (home_of k) ≡ place_of xs k
+first_place xs k r e = same r e ∙ sym (ap (λ p. seek xs k 128 p) start ∙ seek_round xs k (home_of k) 0 128 ∙ ap (λ p. unwrap_or (first_of (λ p. stops (at xs p) k) (round (home_of k) 0 128)) p) end)
+  where
+    start : home_of k ≡ (home_of k + 0) % 128
+    start = omega arith
+
+    end : (home_of k + (0 + 128)) % 128 ≡ home_of k
+    end = omega arith
+
+    same : (r : Option ℕ) → option_map (λ p. p) r ≡ first_of (λ p. stops (at xs p) k) (round (home_of k) 0 128) → unwrap_or r (home_of k) ≡ unwrap_or (first_of (λ p. stops (at xs p) k) (round (home_of k) 0 128)) (home_of k)
+    same None e = ap (λ o. unwrap_or o (home_of k)) e
+    same (Some p) e = ap (λ o. unwrap_or o (home_of k)) e
 
 keyed_stops : (s : Slot) (k : ℕ) → keyed s k ≡ true → stops s k ≡ true
-keyed_stops Empty k h = refl
-keyed_stops (Holds j v) k h = h
+keyed_stops None k h = refl
+keyed_stops (Some e) k h = h
 
 -- A search that passes no more slots than before ends where it did, if the key is there now.
 pub kept : (xs xs' : List Slot) (j : ℕ) → ((s : ℕ) → stops (at xs s) j ≡ false → stops (at xs' s) j ≡ false)
@@ -49,30 +70,30 @@ kept xs xs' j still (suc n) s i e h = go (λ d. kept xs xs' j still n ((s + 1) %
 
 -- a slot is set at the place p, that was empty or had key k
 module _ (xs : List Slot) (p k : ℕ) (v : Row) (within : p < length xs) (free : stops (at xs p) k ≡ true) where
-  pub set_here : at (set xs p (Holds k v)) p ≡ Holds k v
-  set_here = get_or-set_same xs p (Holds k v) Empty within
+  pub set_here : at (set xs p (holding k v)) p ≡ holding k v
+  set_here = get_or-set_same xs p (holding k v) None within
 
-  pub set_there : (i : ℕ) → i ≢ p → at (set xs p (Holds k v)) i ≡ at xs i
-  set_there i ne = get_or-set_other xs p i (Holds k v) Empty ne
+  pub set_there : (i : ℕ) → i ≢ p → at (set xs p (holding k v)) i ≡ at xs i
+  set_there i ne = get_or-set_other xs p i (holding k v) None ne
 
   -- what the slot at p was
   was : (s : Slot) (j : ℕ) → stops s k ≡ true → stops s j ≡ false → eqb k j ≡ false
-  was Empty j t f = absurd (both_ways true f refl)
-  was (Holds i w) j t f = let e : i ≡ k = eqb-true i k t in rw (sym e) f
+  was None j t f = absurd (both_ways true f refl)
+  was (Some x) j t f = let e : x.key ≡ k = eqb-true x.key k t in rw (sym e) f
 
-  set_still : (j s : ℕ) → stops (at xs s) j ≡ false → stops (at (set xs p (Holds k v)) s) j ≡ false
+  set_still : (j s : ℕ) → stops (at xs s) j ≡ false → stops (at (set xs p (holding k v)) s) j ≡ false
   set_still j s f = go (cases_eq s p)
     where
-      go : (s ≡ p) ⊎ (s ≢ p) → stops (at (set xs p (Holds k v)) s) j ≡ false
+      go : (s ≡ p) ⊎ (s ≢ p) → stops (at (set xs p (holding k v)) s) j ≡ false
       go (inl e) = rw (e, set_here) (was (at xs p) j free (rw e at f))
       go (inr ne) = rw (set_there s ne) f
 
-  pub set_reached : Reached xs → place_of xs k ≡ p → Reached (set xs p (Holds k v))
-  set_reached r e i j h = kept xs (set xs p (Holds k v)) j (set_still j) 128 (home_of j) i (go (cases_eq i p)) h
+  pub set_reached : Reached xs → place_of xs k ≡ p → Reached (set xs p (holding k v))
+  set_reached r e i j h = kept xs (set xs p (holding k v)) j (set_still j) 128 (home_of j) i (go (cases_eq i p)) h
     where
       go : (i ≡ p) ⊎ (i ≢ p) → place_of xs j ≡ i
       go (inl q) =
-          let t : keyed (at (set xs p (Holds k v)) p) j ≡ true = rw q at h in
+          let t : keyed (at (set xs p (holding k v)) p) j ≡ true = rw q at h in
           let u : eqb k j ≡ true = rw set_here at t in
           let same : k ≡ j = eqb-true k j u in
           rw (sym same, q) e
@@ -81,42 +102,42 @@ module _ (xs : List Slot) (p k : ℕ) (v : Row) (within : p < length xs) (free :
 -- what a look at every place finds
 pub find_none : (xs : List Slot) (q : ℕ) → ((i : ℕ) → keyed (at xs i) q ≡ false) → find xs q ≡ None
 find_none [] q h = refl
-find_none (Empty ∷ xs) q h = find_none xs q (λ i. h (suc i))
-find_none (Holds j v ∷ xs) q h =
-    let e : eqb q j ≡ false = ne_eqb q j (λ e. both_ways (eqb j q) (h 0) (eq-eqb j q (sym e))) in
+find_none (None ∷ xs) q h = find_none xs q (λ i. h (suc i))
+find_none (Some x ∷ xs) q h =
+    let e : eqb q x.key ≡ false = ne_eqb q x.key (λ e. both_ways (eqb x.key q) (h 0) (eq-eqb x.key q (sym e))) in
     rw e (find_none xs q (λ i. h (suc i)))
 
-pub find_some : (xs : List Slot) (p q : ℕ) (v : Row) → at xs p ≡ Holds q v → ((i : ℕ) → i < p → keyed (at xs i) q ≡ false) → find xs q ≡ Some v
+pub find_some : (xs : List Slot) (p q : ℕ) (v : Row) → at xs p ≡ holding q v → ((i : ℕ) → i < p → keyed (at xs i) q ≡ false) → find xs q ≡ Some v
 find_some [] p q v e h = let z : ◌≡◌ {A = ℕ} 0 1 = cc in absurd (omega arith)
-find_some (Empty ∷ xs) zero q v e h = let z : ◌≡◌ {A = ℕ} 0 1 = cc in absurd (omega arith)
-find_some (Holds j w ∷ xs) zero q v e h = let a : j ≡ q = cc in let b : w ≡ v = cc in rw (eq-eqb q j (sym a), b) refl
-find_some (Empty ∷ xs) (suc p) q v e h = find_some xs p q v e (λ i l. h (suc i) (omega arith))
-find_some (Holds j w ∷ xs) (suc p) q v e h =
-    let n : eqb q j ≡ false = ne_eqb q j (λ e. both_ways (eqb j q) (h 0 (omega arith)) (eq-eqb j q (sym e))) in
+find_some (None ∷ xs) zero q v e h = let z : ◌≡◌ {A = ℕ} 0 1 = cc in absurd (omega arith)
+find_some (Some x ∷ xs) zero q v e h = let a : x.key ≡ q = cc in let b : x.row ≡ v = cc in rw (eq-eqb q x.key (sym a), b) refl
+find_some (None ∷ xs) (suc p) q v e h = find_some xs p q v e (λ i l. h (suc i) (omega arith))
+find_some (Some x ∷ xs) (suc p) q v e h =
+    let n : eqb q x.key ≡ false = ne_eqb q x.key (λ e. both_ways (eqb x.key q) (h 0 (omega arith)) (eq-eqb x.key q (sym e))) in
     rw n (find_some xs p q v e (λ i l. h (suc i) (omega arith)))
 
-pub find_other : (xs : List Slot) (p k q : ℕ) (v : Row) → eqb q k ≡ false → keyed (at xs p) q ≡ false → find (set xs p (Holds k v)) q ≡ find xs q
+pub find_other : (xs : List Slot) (p k q : ℕ) (v : Row) → eqb q k ≡ false → keyed (at xs p) q ≡ false → find (set xs p (holding k v)) q ≡ find xs q
 find_other [] p k q v n h = refl
-find_other (Empty ∷ xs) zero k q v n h = rw n refl
-find_other (Holds j w ∷ xs) zero k q v n h =
-    let e : eqb q j ≡ false = ne_eqb q j (λ e. both_ways (eqb j q) h (eq-eqb j q (sym e))) in
+find_other (None ∷ xs) zero k q v n h = rw n refl
+find_other (Some x ∷ xs) zero k q v n h =
+    let e : eqb q x.key ≡ false = ne_eqb q x.key (λ e. both_ways (eqb x.key q) h (eq-eqb x.key q (sym e))) in
     rw (n, e) refl
-find_other (Empty ∷ xs) (suc p) k q v n h = find_other xs p k q v n h
-find_other (Holds j w ∷ xs) (suc p) k q v n h = ap (λ r. cond (eqb q j) (Some w) r) (find_other xs p k q v n h)
+find_other (None ∷ xs) (suc p) k q v n h = find_other xs p k q v n h
+find_other (Some x ∷ xs) (suc p) k q v n h = ap (λ r. cond (eqb q x.key) (Some x.row) r) (find_other xs p k q v n h)
 
-pub taken_again : (xs : List Slot) (p k : ℕ) (v : Row) → keyed (at xs p) k ≡ true → taken (set xs p (Holds k v)) ≡ taken xs
+pub taken_again : (xs : List Slot) (p k : ℕ) (v : Row) → keyed (at xs p) k ≡ true → taken (set xs p (holding k v)) ≡ taken xs
 taken_again [] p k v h = refl
-taken_again (Empty ∷ xs) zero k v h = absurd (both_ways false refl h)
-taken_again (Holds j w ∷ xs) zero k v h = refl
-taken_again (Empty ∷ xs) (suc p) k v h = taken_again xs p k v h
-taken_again (Holds j w ∷ xs) (suc p) k v h = ap (λ n. n + 1) (taken_again xs p k v h)
+taken_again (None ∷ xs) zero k v h = absurd (both_ways false refl h)
+taken_again (Some x ∷ xs) zero k v h = refl
+taken_again (None ∷ xs) (suc p) k v h = taken_again xs p k v h
+taken_again (Some x ∷ xs) (suc p) k v h = ap (λ n. n + 1) (taken_again xs p k v h)
 
-pub taken_new : (xs : List Slot) (p k : ℕ) (v : Row) → p < length xs → at xs p ≡ Empty → taken (set xs p (Holds k v)) ≡ taken xs + 1
+pub taken_new : (xs : List Slot) (p k : ℕ) (v : Row) → p < length xs → at xs p ≡ None → taken (set xs p (holding k v)) ≡ taken xs + 1
 taken_new [] p k v l e = absurd (omega arith)
-taken_new (Empty ∷ xs) zero k v l e = refl
-taken_new (Holds j w ∷ xs) zero k v l e = let z : ◌≡◌ {A = ℕ} 0 1 = cc in absurd (omega arith)
-taken_new (Empty ∷ xs) (suc p) k v l e = taken_new xs p k v (omega arith) e
-taken_new (Holds j w ∷ xs) (suc p) k v l e = ap (λ n. n + 1) (taken_new xs p k v (omega arith) e)
+taken_new (None ∷ xs) zero k v l e = refl
+taken_new (Some x ∷ xs) zero k v l e = let z : ◌≡◌ {A = ℕ} 0 1 = cc in absurd (omega arith)
+taken_new (None ∷ xs) (suc p) k v l e = taken_new xs p k v (omega arith) e
+taken_new (Some x ∷ xs) (suc p) k v l e = ap (λ n. n + 1) (taken_new xs p k v (omega arith) e)
 
 -- the search passes only places that other keys have
 past : (xs : List Slot) (k n s : ℕ) → s < 128
@@ -141,16 +162,16 @@ past xs k (suc n) s l = go (past xs k n ((s + 1) % 128) (omega arith)) (cases_Bo
 all_taken : (xs : List Slot) (k n : ℕ) → ((i : ℕ) → i < n → stops (at xs i) k ≡ false) → n ≤ taken xs
 all_taken xs k zero h = omega arith
 all_taken [] k (suc n) h = absurd (both_ways true (h 0 (omega arith)) refl)
-all_taken (Empty ∷ xs) k (suc n) h = absurd (both_ways true (h 0 (omega arith)) refl)
-all_taken (Holds j v ∷ xs) k (suc n) h = let e = all_taken xs k n (λ i l. h (suc i) (omega arith)) in omega arith
+all_taken (None ∷ xs) k (suc n) h = absurd (both_ways true (h 0 (omega arith)) refl)
+all_taken (Some x ∷ xs) k (suc n) h = let e = all_taken xs k n (λ i l. h (suc i) (omega arith)) in omega arith
 
-free_slot : (s : Slot) (k : ℕ) → stops s k ≡ true → (s ≡ Empty) ⊎ (keyed s k ≡ true)
-free_slot Empty k h = inl refl
-free_slot (Holds j v) k h = inr h
+free_slot : (s : Slot) (k : ℕ) → stops s k ≡ true → (s ≡ None) ⊎ (keyed s k ≡ true)
+free_slot None k h = inl refl
+free_slot (Some x) k h = inr h
 
-other_key : (s : Slot) (k : ℕ) → stops s k ≡ false → (vacant s ≡ false) × (keyed s k ≡ false)
-other_key Empty k h = absurd (both_ways true h refl)
-other_key (Holds j v) k h = (refl, h)
+other_key : (s : Slot) (k : ℕ) → stops s k ≡ false → (is_some s ≡ true) × (keyed s k ≡ false)
+other_key None k h = absurd (both_ways true h refl)
+other_key (Some x) k h = (refl, h)
 
 -- while a place is empty, the search ends at the key or at the first empty place
 pub searched : (xs : List Slot) (k : ℕ) → taken xs < 128 → Search xs k (place_of xs k)
@@ -181,6 +202,6 @@ searched xs k l = go (past xs k 128 (home_of k) (omega arith))
 pub place_stops : (xs : List Slot) (k : ℕ) → taken xs < 128 → stops (at xs (place_of xs k)) k ≡ true
 place_stops xs k l = go (at xs (place_of xs k)) (searched xs k l).ends
   where
-    go : (s : Slot) → (s ≡ Empty) ⊎ (keyed s k ≡ true) → stops s k ≡ true
+    go : (s : Slot) → (s ≡ None) ⊎ (keyed s k ≡ true) → stops s k ≡ true
     go s (inl e) = rw e refl
     go s (inr h) = keyed_stops s k h

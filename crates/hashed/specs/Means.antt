@@ -4,4 +4,4 @@ use Rattle.hashed.specs.declared.table.Hashed.{Hashed}
 use Rattle.hashed.specs.Places.{find}
 
 abbrev pub hashed_table : Hashed → Table
-hashed_table h = record { look = find h.slots; held = h.held; most = h.capacity }
+hashed_table h = record { look = find h.slots; held = h.held; most = h.capacity.rows }

@@ -1,19 +1,16 @@
 // A store as a hashed table: a key's search begins at a place that the key gives, and goes on from place to place.
 #![tactic(auto)]
 
-ghost use Rattle.std.specs.Prelude.{◌≡◌, ℕ, ◌<◌, slice_set};
+ghost use Rattle.std.specs.Prelude.{◌≡◌, ℕ, ◌<◌};
 ghost use Rattle.store.specs.Table.{Made};
-ghost use Rattle.hashed.specs.declared.slot.Slot.TheVariants.{Holds};
 ghost use Rattle.hashed.specs.Places.{home_of, place_of};
 ghost use Rattle.hashed.specs.Means.{hashed_table};
 ghost use Rattle.hashed.specs.Counts.{counts};
 
 pub mod laws;
-pub mod slot;
 pub mod table;
 
-use slot::Slot;
-use store::{Row, Store};
+use store::{Entry, Row, Store};
 use table::Hashed;
 use values::refusal::Refusal;
 
@@ -25,25 +22,15 @@ fn home(key: u32) -> usize
 }
 
 // The place where the search for the key ends: that of the key, or else the first empty one.
-fn place(slots: &[Slot; 128], key: u32) -> usize
+fn place(slots: &[Option<Entry>; 128], key: u32) -> usize
     ensures within { result < 128 }
     ensures ends { result ≡ place_of slots.now key }
 {
-    let mut p = home(key);
-    for i in 0..128u32 {
-        if slots[p].ends(key) {
-            return p;
-        }
-        p = (p + 1) % 128;
-    }
-    p
-}
-
-fn write(slots: &mut [Slot; 128], p: usize, key: u32, row: Row)
-    requires { p < 128 }
-    ensures { slots.new ≡ slice_set slots.old p (Holds key row) }
-{
-    slots[p] = Slot::Holds(key, row);
+    let first = home(key);
+    (0..128)
+        .map(|i| (first + i) % 128)
+        .find(|p| slots[*p].is_none_or(|entry| entry.key == key))
+        .unwrap_or(first)
 }
 
 impl Hashed {
@@ -51,16 +38,10 @@ impl Hashed {
     pub fn new(capacity: usize) -> Result<Hashed, Refusal>
         ensures { Made hashed_table capacity result }
     {
-        if capacity < 1 {
-            return Err(Refusal::BadCapacity);
-        }
-        if capacity > 64 {
-            return Err(Refusal::BadCapacity);
-        }
         Ok(Hashed {
-            slots: [Slot::Empty; 128],
+            slots: [None; 128],
             held: 0,
-            capacity,
+            capacity: capacity.try_into()?,
         })
     }
 }
@@ -72,24 +53,23 @@ impl Store for Hashed {
 
     fn find(&self, key: u32) -> Option<Row> {
         let p = place(&self.slots, key);
-        self.slots[p].row(key)
+        self.slots[p]?.row_for(key)
     }
 
     fn put(&mut self, key: u32, row: Row) -> Result<(), Refusal> {
         let p = place(&self.slots, key);
-        if !self.slots[p].is_empty() {
-            write(&mut self.slots, p, key, row);
-            return Ok(());
+        let slot = self.slots[p];
+        if slot.is_none() {
+            if self.held == self.capacity.rows() {
+                return Err(Refusal::StoreFull { key });
+            }
+            self.held += 1;
         }
-        if self.held >= self.capacity {
-            return Err(Refusal::StoreFull { key });
-        }
-        write(&mut self.slots, p, key, row);
-        self.held += 1;
+        self.slots[p] = Some(Entry { key, row });
         Ok(())
     }
 
     fn free(&self) -> usize {
-        self.capacity - self.held
+        self.capacity.rows() - self.held
     }
 }

@@ -1,15 +1,17 @@
 ghost use Rattle.std.specs.Prelude.{◌≡◌, ℕ, ◌≤◌};
 ghost use Rattle.hashed.specs.Places.{Reached, taken};
 
-use crate::slot::Slot;
+use store::Entry;
+use store::capacity::Capacity;
 
 // At most `capacity` rows in 128 places, so that a search always meets an empty one.
 #[derive(Drop)]
 pub struct Hashed {
-    pub(crate) slots: [Slot; 128],
+    pub(crate) slots: [Option<Entry>; 128],
+    // How many places are taken: a count of its own, so that `free` need not walk them.
     pub(crate) held: usize,
-    pub(crate) capacity: usize,
+    pub(crate) capacity: Capacity,
     ghost reached: { Reached slots },
     ghost counts: { held ≡ taken slots },
-    ghost bound: { (held ≤ capacity) × (1 ≤ capacity) × (capacity ≤ 64) },
+    ghost bound: { held ≤ capacity.rows },
 }

@@ -3,6 +3,7 @@ use Rattle.std.specs.Prelude.{◌≡◌, ℕ, ◌+◌, ◌≤◌, Bool, cond, no
 use Rattle.values.specs.declared.refusal.Refusal.{Refusal}
 use Rattle.values.specs.declared.refusal.Refusal.TheVariants.{StoreFull, BadCapacity}
 use Rattle.values.specs.Times.{null}
+use Rattle.store.specs.declared.Entry.{Entry}
 use Rattle.store.specs.declared.Row.{Row}
 
 pub record Table : Type 0 where
@@ -31,6 +32,10 @@ abbrev pub row_or_null : Option Row → Row
 row_or_null None = null_row
 row_or_null (Some v) = v
 
+-- the row of the entry, if it has key k
+abbrev pub row_at : Entry → ℕ → Option Row
+row_at e k = cond (e.key == k) (Some e.row) None
+
 -- the row of key k, the null row where none is held
 abbrev pub row_of : Table → ℕ → Row
 row_of t k = row_or_null (t.look k)
@@ -47,10 +52,14 @@ pub record Put (t : Table) (k : ℕ) (v : Row) (r : Result Unit Refusal) (t' : T
   pub answer : r ≡ cond (full_for t k) (Err (StoreFull k)) (Ok tt)
   pub after : t' ≡ cond (full_for t k) t (stored t k v)
 
--- What a new store is: empty, with room for n keys, refused exactly where n is not 1 to 64.
+-- What is made for n keys, with property P: refused exactly where n is not 1 to 64.
+abbrev pub Admitted : {S : Type 0} → (S → ℕ → Type 0) → ℕ → Result S Refusal → Type 0
+Admitted P n (Ok s) = (1 ≤ n) × (n ≤ 64) × P s n
+Admitted P n (Err e) = (1 ≤ n → n ≤ 64 → ⊥) × (e ≡ BadCapacity)
+
+-- What a new store is: empty, with room for n keys.
 abbrev pub Made : {S : Type 0} → (S → Table) → ℕ → Result S Refusal → Type 0
-Made table n (Ok s) = (1 ≤ n) × (n ≤ 64) × (table s ≡ empty n)
-Made table n (Err e) = (1 ≤ n → n ≤ 64 → ⊥) × (e ≡ BadCapacity)
+Made table = Admitted (λ s n. table s ≡ empty n)
 
 -- how many of the keys in the list are k
 abbrev pub times : ℕ → List ℕ → ℕ

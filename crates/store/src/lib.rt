@@ -4,8 +4,9 @@
 ghost use Rattle.std.specs.Prelude.{◌≡◌, ℕ, ◌+◌};
 ghost use Rattle.either.specs.Either.{either};
 ghost use Rattle.either.specs.declared.Either.TheVariants.{Left, Right};
-ghost use Rattle.store.specs.Table.{Table, Put, Counted, has, row_of, null_row};
+ghost use Rattle.store.specs.Table.{Table, Put, Counted, has, row_of, null_row, row_at};
 
+pub mod capacity;
 pub mod laws;
 
 pub use either::Either;
@@ -31,6 +32,22 @@ impl Row {
             version: Timestamp::null(),
             reader: Timestamp::null(),
         }
+    }
+}
+
+// A row with its key.
+#[derive(Clone, Copy)]
+pub struct Entry {
+    pub key: u32,
+    pub row: Row,
+}
+
+impl Entry {
+    // The row, if it is the key's.
+    pub fn row_for(self, key: u32) -> Option<Row>
+        ensures { result ≡ row_at self key }
+    {
+        (self.key == key).then_some(self.row)
     }
 }
 

@@ -1,9 +1,15 @@
-use Rattle.std.proofs.Common.{sym, ap, ◌∙◌}
-use Rattle.hashed.specs.Places.{at, row_at}
-use Rattle.hashed.proofs.Storing.{found}
+use Rattle.std.proofs.Common.{sym, ◌∙◌, ap}
+use Rattle.hashed.proofs.Storing.{found_at, row_in}
 use Rattle.hashed.proofs.HashedStore.find.Goals as goal
+
+pub returns-in_err-self : goal.returns-in_err-self
+returns-in_err-self c =
+    let s = c.args.self.now in
+    let here = found_at s.slots c.args.key c.place-p.result s.reached c.place-p.ensures.ends in
+    c.from_residual.ensures ∙ sym (here ∙ ap (λ x. row_in x c.args.key) c.in_err-self.was)
 
 pub returns : goal.returns
 returns c =
-    let xs = c.args.self.now.slots in
-    c.row.ensures ∙ ap (λ p. row_at (at xs p) c.args.key) c.place-p.ensures.ends ∙ sym (found xs c.args.key c.args.self.now.reached)
+    let s = c.args.self.now in
+    let here = found_at s.slots c.args.key c.place-p.result s.reached c.place-p.ensures.ends in
+    c.row_for.ensures ∙ sym (here ∙ ap (λ x. row_in x c.args.key) c.in_ok-self.was)
