@@ -15,7 +15,7 @@ use values::refusal::Refusal;
 use values::timestamp::Timestamp;
 
 // The value of a key, the version that wrote it, and the latest transaction that read it.
-#[derive(Clone, Copy, PartialEq, Eq)]
+#[derive(Clone, Copy, Debug, Default, PartialEq, Eq)]
 pub struct Row {
     pub value: Option<u32>,
     pub version: Timestamp,
@@ -27,16 +27,12 @@ impl Row {
     pub fn null() -> Row
         ensures { result ≡ null_row }
     {
-        Row {
-            value: None,
-            version: Timestamp::null(),
-            reader: Timestamp::null(),
-        }
+        Row::default()
     }
 }
 
 // A row with its key.
-#[derive(Clone, Copy)]
+#[derive(Clone, Copy, Debug, Default, PartialEq, Eq)]
 pub struct Entry {
     pub key: u32,
     pub row: Row,
@@ -63,7 +59,7 @@ pub trait Store {
     final fn get(&self, key: u32) -> Row
         ensures { result ≡ row_of (table self.now) key }
     {
-        self.find(key).unwrap_or(Row::null())
+        self.find(key).unwrap_or_default()
     }
 
     final fn holds(&self, key: u32) -> bool
