@@ -1,6 +1,6 @@
 -- That a search tree counts the keys that it holds: the descent for a key has one end, so no two nodes have one key.
 -- It stands here because the impl cites it; there is nothing in it that a reader has to believe.
-use Rattle.std.specs.Prelude.{◌≡◌, ℕ, zero, suc, ◌<◌, true, false, cond, eqb, ltb, ◌≢◌, ◌⊎◌, List, [], ◌∷◌, length, is_some, Some, None, Option, refl}
+use Rattle.std.specs.Prelude.{◌≡◌, ℕ, suc, ◌<◌, true, false, cond, eqb, ltb, ◌≢◌, ◌⊎◌, List, [], ◌∷◌, length, is_some, Some, None, Option, refl}
 use Rattle.std.proofs.Common.{sym, ap, ◌∙◌, subst, inl, inr, arith}
 use Rattle.std.proofs.Math.Logic.{∥∥₁_elim}
 use Rattle.std.proofs.Math.Nat.{ℕ_set}
@@ -15,19 +15,19 @@ pub some_none : {A : Type 0} {c : ℕ} (o : Option ℕ) → o ≡ Some c → o �
 some_none o e f = let z : ◌≡◌ {A = ℕ} 0 1 = cc in absurd (omega arith)
 
 -- the three ways on from a node
-pub next_lower : (x : Node) (k : ℕ) → k < x.key → next_of x k ≡ x.lower
-next_lower x k h = rw (lt-ltb k x.key h) refl
+pub next_lower : (x : Node) (k : ℕ) → k < x.entry.key → next_of x k ≡ x.lower
+next_lower x k h = rw (lt-ltb k x.entry.key h) refl
 
-pub next_higher : (x : Node) (k : ℕ) → x.key < k → next_of x k ≡ x.higher
+pub next_higher : (x : Node) (k : ℕ) → x.entry.key < k → next_of x k ≡ x.higher
 next_higher x k h =
-    let a : ltb k x.key ≡ false = le-ltb k x.key (omega arith) in
-    let b : ltb x.key k ≡ true = lt-ltb x.key k h in
+    let a : ltb k x.entry.key ≡ false = le-ltb k x.entry.key (omega arith) in
+    let b : ltb x.entry.key k ≡ true = lt-ltb x.entry.key k h in
     rw (a, b) refl
 
-pub next_own : (x : Node) (k : ℕ) → x.key ≡ k → next_of x k ≡ None
+pub next_own : (x : Node) (k : ℕ) → x.entry.key ≡ k → next_of x k ≡ None
 next_own x k e =
-    let a : ltb k x.key ≡ false = le-ltb k x.key (omega arith) in
-    let b : ltb x.key k ≡ false = le-ltb x.key k (omega arith) in
+    let a : ltb k x.entry.key ≡ false = le-ltb k x.entry.key (omega arith) in
+    let b : ltb x.entry.key k ≡ false = le-ltb x.entry.key k (omega arith) in
     rw (a, b) refl
 
 module _ (xs : List Node) (k : ℕ) where
@@ -63,51 +63,51 @@ module _ (xs : List Node) (k : ℕ) where
   one_end i p q (higher {c = c} h l w) e v f = one_end c p q w e (steps i c q (next_higher (at xs i) k h ∙ l) f v) f
 
 -- no two nodes have one key
-pub one_node : (xs : List Node) (n : ℕ) → Reached xs n
-    → (i j : ℕ) → i < n → j < n → (at xs i).key ≡ (at xs j).key → i ≡ j
-one_node xs n r i j a b e = ∥∥₁_elim (r i a) (ℕ_set i j) (λ v. ∥∥₁_elim (r j b) (ℕ_set i j) (λ w. meet v w))
+pub one_node : (xs : List Node) → Reached xs
+    → (i j : ℕ) → i < length xs → j < length xs → (at xs i).entry.key ≡ (at xs j).entry.key → i ≡ j
+one_node xs r i j a b e = ∥∥₁_elim (r i a) (ℕ_set i j) (λ v. ∥∥₁_elim (r j b) (ℕ_set i j) (λ w. meet v w))
   where
-    meet : Leads xs (at xs i).key 0 i → Leads xs (at xs j).key 0 j → i ≡ j
+    meet : Leads xs (at xs i).entry.key 0 i → Leads xs (at xs j).entry.key 0 j → i ≡ j
     meet v w =
-        let own_i = next_own (at xs i) (at xs j).key e in
-        let own_j = next_own (at xs j) (at xs j).key refl in
-        one_end xs (at xs j).key 0 i j (subst (λ (k : ℕ). Leads xs k 0 i) e v) own_i w own_j
+        let own_i = next_own (at xs i) (at xs j).entry.key e in
+        let own_j = next_own (at xs j) (at xs j).entry.key refl in
+        one_end xs (at xs j).entry.key 0 i j (subst (λ (k : ℕ). Leads xs k 0 i) e v) own_i w own_j
 
--- the keys of the first n nodes
-abbrev keys : List Node → ℕ → List ℕ
-keys xs zero = []
-keys xs (suc n) = (at xs n).key ∷ keys xs n
+abbrev keys : List Node → List ℕ
+keys [] = []
+keys (x ∷ xs) = x.entry.key ∷ keys xs
 
-length_keys : (xs : List Node) (n : ℕ) → n ≡ length (keys xs n)
-length_keys xs zero = refl
-length_keys xs (suc n) = ap suc (length_keys xs n)
+length_keys : (xs : List Node) → length xs ≡ length (keys xs)
+length_keys [] = refl
+length_keys (x ∷ xs) = ap suc (length_keys xs)
 
-no_times : (xs : List Node) (n q : ℕ) → ((i : ℕ) → i < n → (at xs i).key ≢ q) → times q (keys xs n) ≡ 0
-no_times xs zero q h = refl
-no_times xs (suc n) q h =
-    let e : eqb q (at xs n).key ≡ false = ne_eqb q (at xs n).key (λ e. h n (omega arith) (sym e)) in
-    let t = no_times xs n q (λ i l. h i (omega arith)) in
+no_times : (xs : List Node) (q : ℕ) → ((i : ℕ) → i < length xs → (at xs i).entry.key ≢ q) → times q (keys xs) ≡ 0
+no_times [] q h = refl
+no_times (x ∷ xs) q h =
+    let e : eqb q x.entry.key ≡ false = ne_eqb q x.entry.key (λ e. h 0 (omega arith) (sym e)) in
+    let t = no_times xs q (λ i l. h (suc i) (omega arith)) in
     rw e (omega arith)
 
 -- a key that one node at most has is counted once or not at all
-once : (xs : List Node) (n q : ℕ) → ((i j : ℕ) → i < n → j < n → (at xs i).key ≡ q → (at xs j).key ≡ q → i ≡ j)
-    → times q (keys xs n) ≡ cond (is_some (find xs n q)) 1 0
-once xs zero q h = refl
-once xs (suc n) q h = go (cases_Bool (eqb q (at xs n).key)) (once xs n q (λ i j a b. h i j (omega arith) (omega arith)))
+once : (xs : List Node) (q : ℕ) → ((i j : ℕ) → i < length xs → j < length xs → (at xs i).entry.key ≡ q → (at xs j).entry.key ≡ q → i ≡ j)
+    → times q (keys xs) ≡ cond (is_some (find xs q)) 1 0
+once [] q h = refl
+once (x ∷ xs) q h =
+    go (cases_Bool (eqb q x.entry.key)) (once xs q (λ i j a b v w. let e : suc i ≡ suc j = h (suc i) (suc j) (omega arith) (omega arith) v w in omega arith))
   where
-    go : (eqb q (at xs n).key ≡ true) ⊎ (eqb q (at xs n).key ≡ false) → times q (keys xs n) ≡ cond (is_some (find xs n q)) 1 0
-        → times q (keys xs (suc n)) ≡ cond (is_some (find xs (suc n) q)) 1 0
+    go : (eqb q x.entry.key ≡ true) ⊎ (eqb q x.entry.key ≡ false) → times q (keys xs) ≡ cond (is_some (find xs q)) 1 0
+        → times q (keys (x ∷ xs)) ≡ cond (is_some (find (x ∷ xs) q)) 1 0
     go (inl t) e =
-        let same = sym (eqb-true q (at xs n).key t) in
-        let z = no_times xs n q (λ i a x. let w : i ≡ n = h i n (omega arith) (omega arith) x same in absurd (omega arith)) in
+        let same = sym (eqb-true q x.entry.key t) in
+        let z = no_times xs q (λ i a w. let e : 0 ≡ suc i = h 0 (suc i) (omega arith) (omega arith) same w in absurd (omega arith)) in
         rw t (omega arith)
     go (inr f) e = rw f (omega arith)
 
 pub counts : (t : Tree) → Counted (tree_table t)
 counts t = record {
-  keys = keys t.nodes t.held;
-  held = length_keys t.nodes t.held;
-  once = λ q. once t.nodes t.held q (λ i j a b e f. one_node t.nodes t.held t.reached i j a b (e ∙ sym f));
-  bound = t.bound.0;
-  small = (t.bound.1, t.bound.2);
+  keys = keys t.nodes.items;
+  held = length_keys t.nodes.items;
+  once = λ q. once t.nodes.items q (λ i j a b e f. one_node t.nodes.items t.reached i j a b (e ∙ sym f));
+  bound = t.bound;
+  small = t.capacity.bounds;
 }

@@ -3,6 +3,7 @@
 
 ghost use Rattle.std.specs.Prelude.{◌≡◌, ℕ, ◌<◌};
 ghost use Rattle.store.specs.Table.{Made};
+ghost use Rattle.arrayvec.specs.ArrayVec.{array_vec_len};
 ghost use Rattle.tree.specs.Nodes.{changed, grown, Descent};
 ghost use Rattle.tree.specs.Means.{tree_table};
 ghost use Rattle.tree.specs.Counts.{counts};
@@ -12,26 +13,27 @@ pub mod laws;
 pub mod node;
 
 use arena::Tree;
+use arrayvec::ArrayVec;
 use node::Node;
 use store::{Row, Store};
 use values::refusal::Refusal;
 
 // The node at p gets another row.
-fn change(nodes: &mut [Node; 64], p: usize, row: Row)
-    requires { p < 64 }
-    ensures { nodes.new ≡ changed nodes.old p row }
+fn change(nodes: &mut ArrayVec<Node, 64>, p: usize, row: Row)
+    requires { p < array_vec_len nodes.old }
+    ensures { nodes.new.items ≡ changed nodes.old.items p row }
 {
-    nodes[p].row = row;
+    nodes[p].entry.row = row;
 }
 
-// The node at p leads to a new one at n.
-fn grow(nodes: &mut [Node; 64], p: usize, n: usize, key: u32, row: Row)
-    requires there { p < 64 }
-    requires new { n < 64 }
-    ensures { nodes.new ≡ grown nodes.old p n key row }
+// The node at p leads to a new one.
+fn grow(nodes: &mut ArrayVec<Node, 64>, p: usize, key: u32, row: Row)
+    requires there { p < array_vec_len nodes.old }
+    requires room { array_vec_len nodes.old < 64 }
+    ensures { nodes.new.items ≡ grown nodes.old.items p key row }
 {
-    nodes[p] = nodes[p].linked(key, n);
-    nodes[n] = Node::leaf(key, row);
+    nodes[p] = nodes[p].linked(key, nodes.len());
+    nodes.push(Node::leaf(key, row));
 }
 
 impl Tree {
@@ -39,23 +41,16 @@ impl Tree {
     pub fn new(capacity: usize) -> Result<Tree, Refusal>
         ensures { Made tree_table capacity result }
     {
-        if capacity < 1 {
-            return Err(Refusal::BadCapacity);
-        }
-        if capacity > 64 {
-            return Err(Refusal::BadCapacity);
-        }
         Ok(Tree {
-            nodes: [Node::leaf(0, Row::null()); 64],
-            held: 0,
-            capacity,
+            nodes: ArrayVec::new(),
+            capacity: capacity.try_into()?,
         })
     }
 
     // The node where the descent for the key ends: that of the key, or else the one that would lead to it.
     fn place(&self, key: u32) -> usize
-        requires { 0 < self.now.held }
-        ensures { Descent self.now.nodes self.now.held key result }
+        requires { 0 < array_vec_len self.now.nodes }
+        ensures { Descent self.now.nodes.items key result }
     {
         let mut p = 0;
         while let Some(c) = self.nodes[p].next(key) {
@@ -71,34 +66,31 @@ impl Store for Tree {
     ghost counted = { counts };
 
     fn find(&self, key: u32) -> Option<Row> {
-        if self.held == 0 {
+        if self.nodes.is_empty() {
             return None;
         }
         let p = self.place(key);
-        self.nodes[p].row(key)
+        self.nodes[p].entry.row_for(key)
     }
 
     fn put(&mut self, key: u32, row: Row) -> Result<(), Refusal> {
-        let n = self.held;
-        if n == 0 {
-            self.nodes[0] = Node::leaf(key, row);
-            self.held = 1;
+        if self.nodes.is_empty() {
+            self.nodes.push(Node::leaf(key, row));
             return Ok(());
         }
         let p = self.place(key);
-        if self.nodes[p].key == key {
+        if self.nodes[p].entry.key == key {
             change(&mut self.nodes, p, row);
             return Ok(());
         }
-        if n >= self.capacity {
+        if self.nodes.len() == self.capacity.rows() {
             return Err(Refusal::StoreFull { key });
         }
-        grow(&mut self.nodes, p, n, key, row);
-        self.held = n + 1;
+        grow(&mut self.nodes, p, key, row);
         Ok(())
     }
 
     fn free(&self) -> usize {
-        self.capacity - self.held
+        self.capacity.rows() - self.nodes.len()
     }
 }

@@ -1,13 +1,13 @@
 ghost use Rattle.std.specs.Prelude.{◌≡◌};
-ghost use Rattle.tree.specs.Nodes.{next_of, row_at, linked_to, leaf_of};
+ghost use Rattle.tree.specs.Nodes.{next_of, linked_to, leaf_of};
 
-use store::Row;
+use std::cmp::Ordering;
+use store::{Entry, Row};
 
-// A row with its key. The links lead to the nodes of lower and of higher keys.
-#[derive(Clone, Copy)]
+// The links lead to the nodes of lower and of higher keys.
+#[derive(Clone, Copy, Default)]
 pub struct Node {
-    pub(crate) key: u32,
-    pub(crate) row: Row,
+    pub(crate) entry: Entry,
     pub(crate) lower: Option<usize>,
     pub(crate) higher: Option<usize>,
 }
@@ -17,8 +17,7 @@ impl Node {
         ensures { result ≡ leaf_of key row }
     {
         Node {
-            key,
-            row,
+            entry: Entry { key, row },
             lower: None,
             higher: None,
         }
@@ -28,23 +27,10 @@ impl Node {
     pub(crate) fn next(self, key: u32) -> Option<usize>
         ensures { result ≡ next_of self key }
     {
-        if key < self.key {
-            self.lower
-        } else if key > self.key {
-            self.higher
-        } else {
-            None
-        }
-    }
-
-    // The row, if it is the key's.
-    pub(crate) fn row(self, key: u32) -> Option<Row>
-        ensures { result ≡ row_at self key }
-    {
-        if self.key == key {
-            Some(self.row)
-        } else {
-            None
+        match key.cmp(&self.entry.key) {
+            Ordering::Less => self.lower,
+            Ordering::Greater => self.higher,
+            Ordering::Equal => None,
         }
     }
 
@@ -52,12 +38,16 @@ impl Node {
     pub(crate) fn linked(self, key: u32, to: usize) -> Node
         ensures { result ≡ linked_to self key to }
     {
-        let mut node = self;
-        if key < node.key {
-            node.lower = Some(to);
+        if key < self.entry.key {
+            Node {
+                lower: Some(to),
+                ..self
+            }
         } else {
-            node.higher = Some(to);
+            Node {
+                higher: Some(to),
+                ..self
+            }
         }
-        node
     }
 }

@@ -1,40 +1,36 @@
 use Rattle.std.proofs.Common.{rules}
-use Rattle.tree.proofs.Growing.{spot, refuses, adds, adds_kept, changes, changes_kept, begins_kept}
+use Rattle.tree.proofs.Growing.{begins, refuses, changes, adds}
 use Rattle.tree.proofs.TreeStore.put.Goals as goal
 
 pub invariant_of-self : goal.invariant_of-self
 invariant_of-self c =
-    let after = begins_kept c.args.self.now.nodes c.args.key c.args.row c.leaf.result (search rules) c.leaf.ensures in
-    record { reached = after.0; linked = after.1; bound = search rules }
-
-pub invariant_of-self-then-self-p : goal.invariant_of-self-then-self-p
-invariant_of-self-then-self-p c =
     let s = c.args.self.now in
-    let w = spot s c.args.key c.place-p.result (search rules) c.place-p.ensures in
-    let after = changes_kept w s.capacity c.args.row c.if-self-p.true c.change.ensures in
-    record { reached = after.0; linked = after.1; bound = s.bound }
+    let after = begins s.nodes.items c.args.key c.args.row s.capacity.rows (search rules) (s.capacity.bounds.0) c.leaf.ensures c.push.ensures.items in
+    record { reached = after.reached; linked = after.linked; bound = after.bound }
 
-pub returns-then-self-p : goal.returns-then-self-p
-returns-then-self-p c =
+pub invariant_of-self-then-deref-p : goal.invariant_of-self-then-deref-p
+invariant_of-self-then-deref-p c =
     let s = c.args.self.now in
-    let w = spot s c.args.key c.place-p.result (search rules) c.place-p.ensures in
-    changes w s.capacity c.args.row c.if-self-p.true c.change.ensures
+    let after = changes s.linked s.reached c.place-p.ensures s.capacity.rows c.args.row (search rules) s.bound c.change.ensures in
+    record { reached = after.reached; linked = after.linked; bound = after.bound }
 
-pub returns-then-n-self : goal.returns-then-n-self
-returns-then-n-self c =
+pub returns-then-deref-p : goal.returns-then-deref-p
+returns-then-deref-p c =
     let s = c.args.self.now in
-    let w = spot s c.args.key c.place-p.result (search rules) c.place-p.ensures in
-    refuses w s.capacity c.args.row c.if-self-p.false c.if-n-self.true
+    (changes s.linked s.reached c.place-p.ensures s.capacity.rows c.args.row (search rules) s.bound c.change.ensures).put
+
+pub returns-then-len-rows : goal.returns-then-len-rows
+returns-then-len-rows c =
+    let s = c.args.self.now in
+    refuses s.linked s.reached c.place-p.ensures s.capacity.rows c.args.row (search rules) (search rules)
 
 pub invariant_of-self-2 : goal.invariant_of-self-2
 invariant_of-self-2 c =
     let s = c.args.self.now in
-    let w = spot s c.args.key c.place-p.result (search rules) c.place-p.ensures in
-    let after = adds_kept w s.capacity c.args.row c.if-self-p.false c.if-n-self.false s.bound.2 c.grow.ensures in
-    record { reached = after.0; linked = after.1; bound = search rules }
+    let after = adds s.linked s.reached c.place-p.ensures s.capacity.rows c.args.row (search rules) (search rules) c.grow.ensures in
+    record { reached = after.reached; linked = after.linked; bound = after.bound }
 
 pub returns : goal.returns
 returns c =
     let s = c.args.self.now in
-    let w = spot s c.args.key c.place-p.result (search rules) c.place-p.ensures in
-    adds w s.capacity c.args.row c.if-self-p.false c.if-n-self.false s.bound.2 c.grow.ensures
+    (adds s.linked s.reached c.place-p.ensures s.capacity.rows c.args.row (search rules) (search rules) c.grow.ensures).put
