@@ -1,8 +1,8 @@
-// Tests of the stores: on long runs and on hard keys each does what a plain list does.
+// Tests of the stores: on long runs and on hard keys each does what a plain map does.
 #![tactic(auto)]
 
 #[cfg(test)]
-mod list;
+mod compared;
 #[cfg(test)]
 mod runs;
 #[cfg(test)]
