@@ -15,7 +15,7 @@ holds h i k v e =
     (found h.slots k h.reached ∙ rw (here, e, eq-eqb k k refl) refl, sym here)
 
 held_at : (s : Slot) (k : ℕ) (v : Row) → row_in s k ≡ Some v → s ≡ holding k v
-held_at None k v e = let z : ◌≡◌ {A = ℕ} 0 1 = cc in absurd (omega arith)
+held_at None k v e = cc
 held_at (Some x) k v e = go (cases_Bool (eqb x.key k))
   where
     go : (eqb x.key k ≡ true) ⊎ (eqb x.key k ≡ false) → Some x ≡ holding k v
@@ -26,7 +26,7 @@ held_at (Some x) k v e = go (cases_Bool (eqb x.key k))
         λ i. Some (record { key = a i; row = c i })
     go (inr f) =
         let b : None ≡ Some v = rw f at e in
-        let z : ◌≡◌ {A = ℕ} 0 1 = cc in absurd (omega arith)
+        cc
 
 pub hashed_laws : HashedLaws
 hashed_laws = record {

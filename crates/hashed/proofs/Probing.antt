@@ -108,8 +108,8 @@ find_none (Some x ∷ xs) q h =
     rw e (find_none xs q (λ i. h (suc i)))
 
 pub find_some : (xs : List Slot) (p q : ℕ) (v : Row) → at xs p ≡ holding q v → ((i : ℕ) → i < p → keyed (at xs i) q ≡ false) → find xs q ≡ Some v
-find_some [] p q v e h = let z : ◌≡◌ {A = ℕ} 0 1 = cc in absurd (omega arith)
-find_some (None ∷ xs) zero q v e h = let z : ◌≡◌ {A = ℕ} 0 1 = cc in absurd (omega arith)
+find_some [] p q v e h = cc
+find_some (None ∷ xs) zero q v e h = cc
 find_some (Some x ∷ xs) zero q v e h = let a : x.key ≡ q = cc in let b : x.row ≡ v = cc in rw (eq-eqb q x.key (sym a), b) refl
 find_some (None ∷ xs) (suc p) q v e h = find_some xs p q v e (λ i l. h (suc i) (omega arith))
 find_some (Some x ∷ xs) (suc p) q v e h =
@@ -135,7 +135,7 @@ taken_again (Some x ∷ xs) (suc p) k v h = ap (λ n. n + 1) (taken_again xs p k
 pub taken_new : (xs : List Slot) (p k : ℕ) (v : Row) → p < length xs → at xs p ≡ None → taken (set xs p (holding k v)) ≡ taken xs + 1
 taken_new [] p k v l e = absurd (omega arith)
 taken_new (None ∷ xs) zero k v l e = refl
-taken_new (Some x ∷ xs) zero k v l e = let z : ◌≡◌ {A = ℕ} 0 1 = cc in absurd (omega arith)
+taken_new (Some x ∷ xs) zero k v l e = cc
 taken_new (None ∷ xs) (suc p) k v l e = taken_new xs p k v (omega arith) e
 taken_new (Some x ∷ xs) (suc p) k v l e = ap (λ n. n + 1) (taken_new xs p k v (omega arith) e)
 

@@ -32,12 +32,12 @@ put_full t k v h l =
     record { answer = rw (h, b) refl; after = rw (h, b) refl }
 
 was_ok : (b : Bool) (k : ℕ) → ◌≡◌ {A = Result Unit Refusal} (Ok tt) (cond b (Err (StoreFull k)) (Ok tt)) → b ≡ false
-was_ok true k e = let z : ◌≡◌ {A = ℕ} 0 1 = cc in absurd (omega arith)
+was_ok true k e = cc
 was_ok false k e = refl
 
 was_err : (b : Bool) (k : ℕ) (e : Refusal) → ◌≡◌ {A = Result Unit Refusal} (Err e) (cond b (Err (StoreFull k)) (Ok tt)) → (b ≡ true) × (e ≡ StoreFull k)
 was_err true k e h = (refl, cc)
-was_err false k e h = let z : ◌≡◌ {A = ℕ} 0 1 = cc in absurd (omega arith)
+was_err false k e h = cc
 
 is_stored : (t t' : Table) (k : ℕ) (v : Row) → Put t k v (Ok tt) t' → t' ≡ stored t k v
 is_stored t t' k v p = p.after ∙ rw (was_ok (full_for t k) k p.answer) refl

@@ -20,7 +20,7 @@ holds t i a = find_some t.nodes.items i (at t.nodes.items i).entry.key a refl (�
 
 -- what a look at each node finds stands at one of them
 stands : (xs : List Node) (k : ℕ) (v : Row) → find xs k ≡ Some v → (i : ℕ) × (i < length xs) × ((at xs i).entry.key ≡ k) × ((at xs i).entry.row ≡ v)
-stands [] k v e = let z : ◌≡◌ {A = ℕ} 0 1 = cc in absurd (omega arith)
+stands [] k v e = cc
 stands (x ∷ xs) k v e = go (λ h. stands xs k v h) (cases_Bool (eqb k x.entry.key))
   where
     go : (find xs k ≡ Some v → (i : ℕ) × (i < length xs) × ((at xs i).entry.key ≡ k) × ((at xs i).entry.row ≡ v)) → (eqb k x.entry.key ≡ true) ⊎ (eqb k x.entry.key ≡ false)

@@ -12,7 +12,7 @@ use Rattle.tree.specs.Nodes.{at, next_of, find, Leads, here, lower, higher, Reac
 use Rattle.tree.specs.Means.{tree_table}
 
 pub some_none : {A : Type 0} {c : ℕ} (o : Option ℕ) → o ≡ Some c → o ≡ None → A
-some_none o e f = let z : ◌≡◌ {A = ℕ} 0 1 = cc in absurd (omega arith)
+some_none o e f = cc
 
 -- the three ways on from a node
 pub next_lower : (x : Node) (k : ℕ) → k < x.entry.key → next_of x k ≡ x.lower
