@@ -2,7 +2,8 @@
 use Rattle.std.proofs.Common.{◌≡◌, ℕ, zero, suc, ◌+◌, ◌-◌, ◌%◌, ◌<◌, ◌≤◌, true, false, cond, eqb, ◌≢◌, ◌⊎◌, List, [], ◌∷◌, length, set, is_some, Some, None, Option, option_map, unwrap_or, map, refl, sym, ap, ◌∙◌, subst, inl, inr, arith}
 use Rattle.std.specs.List.{range_with_len, find as first_of}
 use Rattle.std.proofs.lemmas.List.{get_or-set_same, get_or-set_other}
-use Rattle.std.proofs.lemmas.Bool.{both_ways, cases_eq, cases_lt, cases_Bool, eqb-true, eq-eqb, ne_eqb}
+use Rattle.std.proofs.lemmas.Bool.Decides.{nat_tests}
+use Rattle.std.proofs.lemmas.Bool.{cases_eq, cases_lt, cases_Bool, eqb-true}
 use Rattle.store.specs.declared.Row.{Row}
 use Rattle.hashed.specs.Places.{Slot, at, holding, keyed, stops, seek, find, taken, Reached, place_of, home_of}
 use Rattle.hashed.specs.Laws.{Search}
@@ -78,8 +79,8 @@ module _ (xs : List Slot) (p k : ℕ) (v : Row) (within : p < length xs) (free :
 
   -- what the slot at p was
   was : (s : Slot) (j : ℕ) → stops s k ≡ true → stops s j ≡ false → eqb k j ≡ false
-  was None j t f = absurd (both_ways true f refl)
-  was (Some x) j t f = let e : x.key ≡ k = eqb-true x.key k t in rw (sym e) f
+  was None j t f = cc
+  was (Some x) j t f = grind (arith, nat_tests)
 
   set_still : (j s : ℕ) → stops (at xs s) j ≡ false → stops (at (set xs p (holding k v)) s) j ≡ false
   set_still j s f = go (cases_eq s p)
@@ -92,42 +93,35 @@ module _ (xs : List Slot) (p k : ℕ) (v : Row) (within : p < length xs) (free :
   set_reached r e i j h = kept xs (set xs p (holding k v)) j (set_still j) 128 (home_of j) i (go (cases_eq i p)) h
     where
       go : (i ≡ p) ⊎ (i ≢ p) → place_of xs j ≡ i
-      go (inl q) =
-          let t : keyed (at (set xs p (holding k v)) p) j ≡ true = rw q at h in
-          let u : eqb k j ≡ true = rw set_here at t in
-          let same : k ≡ j = eqb-true k j u in
-          rw (sym same, q) e
+      go (inl q) = let same : k ≡ j = eqb-true k j (rw (q, set_here) at h) in rw (sym same, q) e
       go (inr ne) = r i j (rw (set_there i ne) at h)
 
 -- what a look at every place finds
 pub find_none : (xs : List Slot) (q : ℕ) → ((i : ℕ) → keyed (at xs i) q ≡ false) → find xs q ≡ None
 find_none [] q h = refl
 find_none (None ∷ xs) q h = find_none xs q (λ i. h (suc i))
-find_none (Some x ∷ xs) q h =
-    let e : eqb q x.key ≡ false = ne_eqb q x.key (λ e. both_ways (eqb x.key q) (h 0) (eq-eqb x.key q (sym e))) in
-    rw e (find_none xs q (λ i. h (suc i)))
+find_none (Some x ∷ xs) q h = let other = h 0 in let rest = find_none xs q (λ i. h (suc i)) in grind (arith, nat_tests)
 
 pub find_some : (xs : List Slot) (p q : ℕ) (v : Row) → at xs p ≡ holding q v → ((i : ℕ) → i < p → keyed (at xs i) q ≡ false) → find xs q ≡ Some v
 find_some [] p q v e h = cc
 find_some (None ∷ xs) zero q v e h = cc
-find_some (Some x ∷ xs) zero q v e h = let a : x.key ≡ q = cc in let b : x.row ≡ v = cc in rw (eq-eqb q x.key (sym a), b) refl
+find_some (Some x ∷ xs) zero q v e h = let a : x.key ≡ q = cc in let b : x.row ≡ v = cc in grind (arith, nat_tests)
 find_some (None ∷ xs) (suc p) q v e h = find_some xs p q v e (λ i l. h (suc i) (omega arith))
 find_some (Some x ∷ xs) (suc p) q v e h =
-    let n : eqb q x.key ≡ false = ne_eqb q x.key (λ e. both_ways (eqb x.key q) (h 0 (omega arith)) (eq-eqb x.key q (sym e))) in
-    rw n (find_some xs p q v e (λ i l. h (suc i) (omega arith)))
+    let other = h 0 (omega arith) in
+    let rest = find_some xs p q v e (λ i l. h (suc i) (omega arith)) in
+    grind (arith, nat_tests)
 
-pub find_other : (xs : List Slot) (p k q : ℕ) (v : Row) → eqb q k ≡ false → keyed (at xs p) q ≡ false → find (set xs p (holding k v)) q ≡ find xs q
+pub find_other : (xs : List Slot) (p k q : ℕ) (v : Row) → q ≢ k → keyed (at xs p) q ≡ false → find (set xs p (holding k v)) q ≡ find xs q
 find_other [] p k q v n h = refl
-find_other (None ∷ xs) zero k q v n h = rw n refl
-find_other (Some x ∷ xs) zero k q v n h =
-    let e : eqb q x.key ≡ false = ne_eqb q x.key (λ e. both_ways (eqb x.key q) h (eq-eqb x.key q (sym e))) in
-    rw (n, e) refl
+find_other (None ∷ xs) zero k q v n h = grind (arith, nat_tests)
+find_other (Some x ∷ xs) zero k q v n h = grind (arith, nat_tests)
 find_other (None ∷ xs) (suc p) k q v n h = find_other xs p k q v n h
 find_other (Some x ∷ xs) (suc p) k q v n h = ap (λ r. cond (eqb q x.key) (Some x.row) r) (find_other xs p k q v n h)
 
 pub taken_again : (xs : List Slot) (p k : ℕ) (v : Row) → keyed (at xs p) k ≡ true → taken (set xs p (holding k v)) ≡ taken xs
 taken_again [] p k v h = refl
-taken_again (None ∷ xs) zero k v h = absurd (both_ways false refl h)
+taken_again (None ∷ xs) zero k v h = cc
 taken_again (Some x ∷ xs) zero k v h = refl
 taken_again (None ∷ xs) (suc p) k v h = taken_again xs p k v h
 taken_again (Some x ∷ xs) (suc p) k v h = ap (λ n. n + 1) (taken_again xs p k v h)
@@ -161,16 +155,16 @@ past xs k (suc n) s l = go (past xs k n ((s + 1) % 128) (omega arith)) (cases_Bo
 -- n places that other keys have are taken
 all_taken : (xs : List Slot) (k n : ℕ) → ((i : ℕ) → i < n → stops (at xs i) k ≡ false) → n ≤ taken xs
 all_taken xs k zero h = omega arith
-all_taken [] k (suc n) h = absurd (both_ways true (h 0 (omega arith)) refl)
-all_taken (None ∷ xs) k (suc n) h = absurd (both_ways true (h 0 (omega arith)) refl)
-all_taken (Some x ∷ xs) k (suc n) h = let e = all_taken xs k n (λ i l. h (suc i) (omega arith)) in omega arith
+all_taken [] k (suc n) h = let here = h 0 (omega arith) in cc
+all_taken (None ∷ xs) k (suc n) h = let here = h 0 (omega arith) in cc
+all_taken (Some x ∷ xs) k (suc n) h = let rest = all_taken xs k n (λ i l. h (suc i) (omega arith)) in omega arith
 
 free_slot : (s : Slot) (k : ℕ) → stops s k ≡ true → (s ≡ None) ⊎ (keyed s k ≡ true)
 free_slot None k h = inl refl
 free_slot (Some x) k h = inr h
 
 other_key : (s : Slot) (k : ℕ) → stops s k ≡ false → (is_some s ≡ true) × (keyed s k ≡ false)
-other_key None k h = absurd (both_ways true h refl)
+other_key None k h = cc
 other_key (Some x) k h = (refl, h)
 
 -- while a place is empty, the search ends at the key or at the first empty place

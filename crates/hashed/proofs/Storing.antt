@@ -1,8 +1,9 @@
 -- What a search finds, and what a put does to the table.
-use Rattle.std.proofs.Common.{◌≡◌, ℕ, zero, suc, ◌+◌, ◌<◌, ◌≤◌, true, false, eqb, ◌≢◌, ◌⊎◌, List, length, set, replicate, is_some, Some, None, Option, Ok, Err, refl, sym, ap, subst, ◌∙◌, inl, inr, arith}
-use Rattle.std.proofs.lemmas.Bool.{both_ways, cases_eq, cases_Bool, eqb-true, eq-eqb, ne_eqb}
+use Rattle.std.proofs.Common.{◌≡◌, ℕ, zero, suc, ◌+◌, ◌<◌, ◌≤◌, true, false, ◌≢◌, ◌⊎◌, List, length, set, replicate, is_some, Some, None, Option, Ok, Err, refl, sym, ap, subst, ◌∙◌, inl, inr, arith}
+use Rattle.std.proofs.lemmas.Bool.Decides.{nat_tests}
+use Rattle.std.proofs.lemmas.Bool.{cases_eq, eq-eqb, ne_eqb}
 use Rattle.store.specs.declared.Row.{Row}
-use Rattle.store.specs.Table.{Table, Put, with_row, row_at}
+use Rattle.store.specs.Table.{Table, Put, row_at}
 use Rattle.store.proofs.Puts.{put_again, put_new, put_full}
 use Rattle.values.specs.declared.refusal.Refusal.TheVariants.{StoreFull}
 use Rattle.hashed.specs.declared.table.Hashed.{Hashed}
@@ -16,64 +17,40 @@ row_in (Some e) k = row_at e k
 
 -- no place but that where the search ends has the key
 elsewhere : (xs : List Slot) (k i : ℕ) → Reached xs → i ≢ place_of xs k → keyed (at xs i) k ≡ false
-elsewhere xs k i r ne = go (cases_Bool (keyed (at xs i) k))
-  where
-    go : (keyed (at xs i) k ≡ true) ⊎ (keyed (at xs i) k ≡ false) → keyed (at xs i) k ≡ false
-    go (inl t) = absurd (ne (sym (r i k t)))
-    go (inr f) = f
+elsewhere xs k i r ne = let at_end = r i k in grind arith
 
 -- the search finds what a look at every place finds
-pub found : (xs : List Slot) (k : ℕ) → Reached xs → find xs k ≡ row_in (at xs (place_of xs k)) k
-found xs k r = go (at xs (place_of xs k)) refl
+pub found : (xs : List Slot) (k p : ℕ) → Reached xs → p ≡ place_of xs k → find xs k ≡ row_in (at xs p) k
+found xs k p r e = go (at xs p) refl
   where
-    nowhere : keyed (at xs (place_of xs k)) k ≡ false → find xs k ≡ None
-    nowhere f = find_none xs k (λ i. every i (cases_eq i (place_of xs k)))
+    only : (i : ℕ) → i ≢ p → keyed (at xs i) k ≡ false
+    only i n = elsewhere xs k i r (λ h. n (h ∙ sym e))
+
+    nowhere : keyed (at xs p) k ≡ false → find xs k ≡ None
+    nowhere f = find_none xs k (λ i. every i (cases_eq i p))
       where
-        every : (i : ℕ) → (i ≡ place_of xs k) ⊎ (i ≢ place_of xs k) → keyed (at xs i) k ≡ false
-        every i (inl e) = rw e f
-        every i (inr ne) = elsewhere xs k i r ne
+        every : (i : ℕ) → (i ≡ p) ⊎ (i ≢ p) → keyed (at xs i) k ≡ false
+        every i (inl h) = rw h f
+        every i (inr n) = only i n
 
-    go : (s : Slot) → at xs (place_of xs k) ≡ s → find xs k ≡ row_in s k
-    go None e = nowhere (rw e refl)
-    go (Some x) e = ways (cases_Bool (eqb x.key k))
+    go : (s : Slot) → at xs p ≡ s → find xs k ≡ row_in s k
+    go None h = nowhere (rw h refl)
+    go (Some x) h = ways (cases_eq x.key k)
       where
-        ways : (eqb x.key k ≡ true) ⊎ (eqb x.key k ≡ false) → find xs k ≡ row_in (Some x) k
-        ways (inl t) =
-            let here : at xs (place_of xs k) ≡ holding k x.row = e ∙ ap (λ j. holding j x.row) (eqb-true x.key k t) in
-            rw t (find_some xs (place_of xs k) k x.row here (λ i l. elsewhere xs k i r (λ q. absurd (omega arith))))
-        ways (inr f) = rw f (nowhere (rw e f))
+        ways : (x.key ≡ k) ⊎ (x.key ≢ k) → find xs k ≡ row_in (Some x) k
+        ways (inl s) = find_some xs p k x.row (h ∙ ap (λ j. holding j x.row) s) (λ i l. only i (omega arith)) ∙ grind (arith, nat_tests)
+        ways (inr n) = nowhere (rw h (ne_eqb x.key k n)) ∙ grind (arith, nat_tests)
 
-pub found_at : (xs : List Slot) (k p : ℕ) → Reached xs → p ≡ place_of xs k → find xs k ≡ row_in (at xs p) k
-found_at xs k p r e = rw e (found xs k r)
-
-unkeyed : (s : Slot) (k q : ℕ) → stops s k ≡ true → eqb q k ≡ false → keyed s q ≡ false
-unkeyed None k q t f = refl
-unkeyed (Some x) k q t f =
-    ne_eqb x.key q (λ e. both_ways (eqb q k) f (eq-eqb q k (sym e ∙ eqb-true x.key k t)))
-
-module _ (xs : List Slot) (p k : ℕ) (v : Row) (within : p < length xs) (free : stops (at xs p) k ≡ true) (r : Reached xs) (here : place_of xs k ≡ p) where
-  find_put : (q : ℕ) → find (set xs p (holding k v)) q ≡ with_row (find xs) k v q
-  find_put q = go (cases_Bool (eqb q k))
-    where
-      after : Reached (set xs p (holding k v))
-      after = set_reached xs p k v within free r here
-
-      at_end : place_of (set xs p (holding k v)) k ≡ p
-      at_end = after p k (rw (set_here xs p k v within free) (eq-eqb k k refl))
-
-      go : (eqb q k ≡ true) ⊎ (eqb q k ≡ false) → find (set xs p (holding k v)) q ≡ with_row (find xs) k v q
-      go (inl t) =
-          let same : q ≡ k = eqb-true q k t in
-          rw (t, same) (find_some (set xs p (holding k v)) p k v (set_here xs p k v within free)
-          (λ i l. elsewhere (set xs p (holding k v)) k i after (λ e. absurd (omega (arith, at_end)))))
-      go (inr f) = rw f (find_other xs p k q v f (unkeyed (at xs p) k q free f))
+unkeyed : (s : Slot) (k q : ℕ) → stops s k ≡ true → q ≢ k → keyed s q ≡ false
+unkeyed None k q t n = refl
+unkeyed (Some x) k q t n = grind (arith, nat_tests)
 
 pub when_vacant : (s : Slot) → is_some s ≡ false → s ≡ None
 when_vacant None h = refl
-when_vacant (Some x) h = absurd (both_ways true h refl)
+when_vacant (Some x) h = cc
 
 pub when_taken : (s : Slot) (k : ℕ) → is_some s ≡ true → stops s k ≡ true → keyed s k ≡ true
-when_taken None k h t = absurd (both_ways false refl h)
+when_taken None k h t = cc
 when_taken (Some x) k h t = t
 
 abbrev pub table : List Slot → ℕ → ℕ → Table
@@ -95,7 +72,7 @@ pub record Written (xs : List Slot) (n k : ℕ) (v : Row) (most : ℕ) (ys : Lis
   pub bound : n' ≤ most
 
 some : (s : Slot) (k : ℕ) → keyed s k ≡ true → is_some (row_in s k) ≡ true
-some None k h = absurd (both_ways false refl h)
+some None k h = cc
 some (Some x) k h = rw h refl
 
 -- what a put does there
@@ -104,7 +81,7 @@ module _ {xs : List Slot} {k p : ℕ} (w : Spot xs k p) (n most : ℕ) (v : Row)
   ends = rw w.here (place_stops xs k w.few)
 
   is_found : find xs k ≡ row_in (at xs p) k
-  is_found = found_at xs k p w.reached w.here
+  is_found = found xs k p w.reached w.here
 
   absent : is_some (at xs p) ≡ false → is_some (find xs k) ≡ false
   absent e = rw is_found (ap (λ s. is_some (row_in s k)) (when_vacant (at xs p) e))
@@ -122,14 +99,23 @@ module _ {xs : List Slot} {k p : ℕ} (w : Spot xs k p) (n most : ℕ) (v : Row)
       reached : Reached ys
       reached = subst Reached (sym written) (set_reached xs p k v (omega arith) ends w.reached (sym w.here))
 
-      looks : (q : ℕ) → find ys q ≡ with_row (find xs) k v q
-      looks q = rw written (find_put xs p k v (omega arith) ends w.reached (sym w.here) q)
+      at_place : at ys p ≡ holding k v
+      at_place = rw written (set_here xs p k v (omega arith) ends)
+
+      at_end : place_of ys k ≡ p
+      at_end = reached p k (rw (at_place, eq-eqb k k refl) refl)
+
+      here : find ys k ≡ Some v
+      here = find_some ys p k v at_place (λ i l. elsewhere ys k i reached (λ e. absurd (omega (arith, at_end))))
+
+      others : (q : ℕ) → q ≢ k → find ys q ≡ find xs q
+      others q n = rw written (find_other xs p k q v n (unkeyed (at xs p) k q ends n))
 
       put : Counting n' → Put (table xs n most) k v (Ok tt) (table ys n' most)
-      put (inl (e, l, more)) = put_new (table xs n most) (table ys n' most) k v (absent e) l looks more refl
+      put (inl (e, l, more)) = put_new (table xs n most) (table ys n' most) k v here others refl (absent e) l more
       put (inr (e, l, same)) =
           let f : is_some (find xs k) ≡ true = rw is_found (some (at xs p) k (when_taken (at xs p) k e ends)) in
-          put_again (table xs n most) (table ys n' most) k v f looks same refl
+          put_again (table xs n most) (table ys n' most) k v here others refl f same
 
       counts : Counting n' → n' ≡ taken ys
       counts (inl (e, l, more)) =
@@ -151,7 +137,7 @@ spot s k p size here =
     record { size = size; reached = s.reached; few = few; here = here; within = omega arith }
 
 pub none_reached : (i k : ℕ) → keyed (at (replicate 128 None) i) k ≡ true → place_of (replicate 128 None) k ≡ i
-none_reached i k h = absurd (both_ways (keyed (at (replicate 128 None) i) k) (blank 128 i k) h)
+none_reached i k h = let f = blank 128 i k in cc
   where
     blank : (n i k : ℕ) → keyed (at (replicate n None) i) k ≡ false
     blank zero i k = refl

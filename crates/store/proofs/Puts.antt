@@ -1,35 +1,35 @@
 -- What a put does to a table: how a store shows it, and what follows from it.
-use Rattle.std.proofs.Common.{◌≡◌, ℕ, ◌+◌, ◌<◌, ◌≤◌, Bool, true, false, cond, not, eqb, leb, ◌⊎◌, ◌∷◌, is_some, Some, None, Ok, Err, Option, Result, sym, refl, ◌∙◌, subst, inl, inr, arith}
-use Rattle.std.proofs.lemmas.Bool.{both_ways, cases_Bool, and_parts, not-true, eqb-true, eq-eqb, ne_eqb, le-leb, lt-leb, cond-false, leb-true, leb-false}
+use Rattle.std.proofs.Common.{◌≡◌, ℕ, ◌+◌, ◌<◌, ◌≤◌, Bool, true, false, cond, not, leb, ◌≢◌, ◌⊎◌, ◌∷◌, is_some, Some, None, Ok, Err, Option, Result, sym, refl, ◌∙◌, subst, inl, inr, arith}
+use Rattle.std.proofs.lemmas.Bool.Decides.{nat_tests}
+use Rattle.std.proofs.lemmas.Bool.{cases_Bool, and_parts, not-true, leb-true}
 use Rattle.values.specs.declared.refusal.Refusal.{Refusal}
 use Rattle.values.specs.declared.refusal.Refusal.TheVariants.{StoreFull}
 use Rattle.store.specs.declared.Row.{Row}
-use Rattle.store.specs.Table.{Table, Put, Counted, times, has, row_or_null, null_row, with_row, full_for, stored}
+use Rattle.store.specs.Table.{Table, Put, Counted, has, row_or_null, null_row, with_row, full_for, stored}
 use Rattle.store.specs.Laws.{PutDone, PutRefused, StoreLaws}
 
 pub same_table : (t u : Table) → ((q : ℕ) → t.look q ≡ u.look q) → t.held ≡ u.held → t.most ≡ u.most → t ≡ u
 same_table t u e h m = λ i. record { look = λ q. e q i; held = h i; most = m i }
 
 -- for a store: the three ends of a put, the key being held, new, or refused
-module _ (t t' : Table) (k : ℕ) (v : Row) where
-  pub put_again : has t k ≡ true → ((q : ℕ) → t'.look q ≡ with_row t.look k v q) → t'.held ≡ t.held → t'.most ≡ t.most → Put t k v (Ok tt) t'
-  put_again h looks held most = record {
+module _ (t t' : Table) (k : ℕ) (v : Row) (here : t'.look k ≡ Some v) (others : (q : ℕ) → q ≢ k → t'.look q ≡ t.look q) (most : t'.most ≡ t.most) where
+  looks : (q : ℕ) → t'.look q ≡ with_row t.look k v q
+  looks q = let h = others q in grind (arith, nat_tests)
+
+  pub put_again : has t k ≡ true → t'.held ≡ t.held → Put t k v (Ok tt) t'
+  put_again h held = record {
     answer = rw h refl;
-    after = same_table t' (stored t k v) looks (rw h (omega arith)) most ∙ sym (cond-false (full_for t k) t (stored t k v) (rw h refl));
+    after = same_table t' (stored t k v) looks (rw h (omega arith)) most ∙ rw h refl;
   }
 
-  pub put_new : has t k ≡ false → t.held < t.most → ((q : ℕ) → t'.look q ≡ with_row t.look k v q) → t'.held ≡ t.held + 1 → t'.most ≡ t.most → Put t k v (Ok tt) t'
-  put_new h l looks held most =
-      let b : leb t.most t.held ≡ false = lt-leb t.most t.held l in
-      record {
-        answer = rw (h, b) refl;
-        after = same_table t' (stored t k v) looks (rw h held) most ∙ sym (cond-false (full_for t k) t (stored t k v) (rw (h, b) refl));
-      }
+  pub put_new : has t k ≡ false → t.held < t.most → t'.held ≡ t.held + 1 → Put t k v (Ok tt) t'
+  put_new h l held = record {
+    answer = grind (arith, nat_tests);
+    after = same_table t' (stored t k v) looks (rw h held) most ∙ grind (arith, nat_tests);
+  }
 
 pub put_full : (t : Table) (k : ℕ) (v : Row) → has t k ≡ false → t.most ≤ t.held → Put t k v (Err (StoreFull k)) t
-put_full t k v h l =
-    let b : leb t.most t.held ≡ true = le-leb t.most t.held l in
-    record { answer = rw (h, b) refl; after = rw (h, b) refl }
+put_full t k v h l = record { answer = grind (arith, nat_tests); after = grind (arith, nat_tests) }
 
 was_ok : (b : Bool) (k : ℕ) → ◌≡◌ {A = Result Unit Refusal} (Ok tt) (cond b (Err (StoreFull k)) (Ok tt)) → b ≡ false
 was_ok true k e = cc
@@ -43,18 +43,16 @@ is_stored : (t t' : Table) (k : ℕ) (v : Row) → Put t k v (Ok tt) t' → t' �
 is_stored t t' k v p = p.after ∙ rw (was_ok (full_for t k) k p.answer) refl
 
 done : (t t' : Table) (k : ℕ) (v : Row) → Put t k v (Ok tt) t' → PutDone t k v t'
-done t t' k v p = subst (λ (u : Table). PutDone t k v u) (sym (is_stored t t' k v p)) (record {
-  room = λ h. room (cases_Bool (leb t.most t.held)) h;
-  here = rw (eq-eqb k k refl) refl;
-  others = λ q n. rw (ne_eqb q k n) refl;
-  again = λ h. rw h (omega arith);
-  new = λ h. rw h refl;
-  capacity = refl;
-})
-  where
-    room : (leb t.most t.held ≡ true) ⊎ (leb t.most t.held ≡ false) → has t k ≡ false → t.held < t.most
-    room (inl b) h = absurd (both_ways (full_for t k) (was_ok (full_for t k) k p.answer) (rw (h, b) refl))
-    room (inr b) h = leb-false t.most t.held b
+done t t' k v p =
+    let room = was_ok (full_for t k) k p.answer in
+    subst (λ (u : Table). PutDone t k v u) (sym (is_stored t t' k v p)) (record {
+      room = λ h. grind (arith, nat_tests);
+      here = grind (arith, nat_tests);
+      others = λ q n. grind (arith, nat_tests);
+      again = λ h. grind (arith, nat_tests);
+      new = λ h. grind (arith, nat_tests);
+      capacity = refl;
+    })
 
 refused : (t t' : Table) (k : ℕ) (v : Row) (e : Refusal) → Put t k v (Err e) t' → PutRefused t k e t'
 refused t t' k v e p =
@@ -67,36 +65,24 @@ refused t t' k v e p =
       unchanged = p.after ∙ rw w.0 refl;
     }
 
--- the count goes on where one key is new
+-- the count goes on, one more where the key is new
 counted_new : (t : Table) (k : ℕ) (v : Row) → Counted t → has t k ≡ false → t.held < t.most → Counted (stored t k v)
 counted_new t k v c h l = record {
   keys = k ∷ c.keys;
-  held = rw h (omega (arith, c.held));
-  once = λ q. once q (cases_Bool (eqb q k));
-  bound = rw h (omega arith);
+  held = grind (arith, nat_tests, c.held);
+  once = λ q. grind (arith, nat_tests, c.once q, c.once k);
+  bound = grind (arith, nat_tests);
   small = c.small;
 }
-  where
-    once : (q : ℕ) → (eqb q k ≡ true) ⊎ (eqb q k ≡ false) → times q (k ∷ c.keys) ≡ cond (has (stored t k v) q) 1 0
-    once q (inl e) =
-        let z : times q c.keys ≡ 0 = rw (eqb-true q k e) (c.once k ∙ rw h refl) in
-        rw e (omega arith)
-    once q (inr e) = rw e (omega (arith, c.once q))
 
 counted_again : (t : Table) (k : ℕ) (v : Row) → Counted t → has t k ≡ true → Counted (stored t k v)
 counted_again t k v c h = record {
   keys = c.keys;
-  held = rw h (omega (arith, c.held));
-  once = λ q. once q (cases_Bool (eqb q k));
-  bound = rw h (omega (arith, c.bound));
+  held = grind (arith, nat_tests, c.held);
+  once = λ q. grind (arith, nat_tests, c.once q, c.once k);
+  bound = grind (arith, nat_tests, c.bound);
   small = c.small;
 }
-  where
-    once : (q : ℕ) → (eqb q k ≡ true) ⊎ (eqb q k ≡ false) → times q c.keys ≡ cond (has (stored t k v) q) 1 0
-    once q (inl e) =
-        let z : times q c.keys ≡ 1 = rw (eqb-true q k e) (c.once k ∙ rw h refl) in
-        rw e z
-    once q (inr e) = rw e (c.once q)
 
 counted : (t t' : Table) (k : ℕ) (v : Row) (r : Result Unit Refusal) → Counted t → Put t k v r t' → Counted t'
 counted t t' k v (Err e) c p = subst Counted (sym (refused t t' k v e p).unchanged) c
@@ -108,10 +94,10 @@ counted t t' k v (Ok tt) c p = subst Counted (sym (is_stored t t' k v p)) (go (c
 
 absent : (o : Option Row) → is_some o ≡ false → row_or_null o ≡ null_row
 absent None h = refl
-absent (Some v) h = absurd (both_ways true h refl)
+absent (Some v) h = cc
 
 present : (o : Option Row) → is_some o ≡ true → o ≡ Some (row_or_null o)
-present None h = absurd (both_ways false refl h)
+present None h = cc
 present (Some v) h = refl
 
 pub store_laws : StoreLaws

@@ -1,6 +1,7 @@
 -- The laws of a search tree.
-use Rattle.std.proofs.Common.{◌≡◌, ℕ, suc, ◌<◌, true, false, eqb, ◌⊎◌, List, [], ◌∷◌, length, Some, sym, refl, inl, inr, arith}
-use Rattle.std.proofs.lemmas.Bool.{cases_Bool, eqb-true}
+use Rattle.std.proofs.Common.{◌≡◌, ℕ, suc, ◌<◌, ◌≢◌, ◌⊎◌, List, [], ◌∷◌, length, Some, refl, inl, inr, arith}
+use Rattle.std.proofs.lemmas.Bool.Decides.{nat_tests}
+use Rattle.std.proofs.lemmas.Bool.{cases_eq}
 use Rattle.store.specs.declared.Row.{Row}
 use Rattle.tree.specs.declared.arena.Tree.{Tree}
 use Rattle.tree.specs.declared.node.Node.{Node}
@@ -21,18 +22,12 @@ holds t i a = find_some t.nodes.items i (at t.nodes.items i).entry.key a refl (�
 -- what a look at each node finds stands at one of them
 stands : (xs : List Node) (k : ℕ) (v : Row) → find xs k ≡ Some v → (i : ℕ) × (i < length xs) × ((at xs i).entry.key ≡ k) × ((at xs i).entry.row ≡ v)
 stands [] k v e = cc
-stands (x ∷ xs) k v e = go (λ h. stands xs k v h) (cases_Bool (eqb k x.entry.key))
+stands (x ∷ xs) k v e = go (cases_eq x.entry.key k) (λ h. stands xs k v h)
   where
-    go : (find xs k ≡ Some v → (i : ℕ) × (i < length xs) × ((at xs i).entry.key ≡ k) × ((at xs i).entry.row ≡ v)) → (eqb k x.entry.key ≡ true) ⊎ (eqb k x.entry.key ≡ false)
+    go : (x.entry.key ≡ k) ⊎ (x.entry.key ≢ k) → (find xs k ≡ Some v → (i : ℕ) × (i < length xs) × ((at xs i).entry.key ≡ k) × ((at xs i).entry.row ≡ v))
         → (i : ℕ) × (i < suc (length xs)) × ((at (x ∷ xs) i).entry.key ≡ k) × ((at (x ∷ xs) i).entry.row ≡ v)
-    go more (inl t) =
-        let r : Some x.entry.row ≡ Some v = rw t at e in
-        let s : x.entry.row ≡ v = cc in
-        (0, omega arith, sym (eqb-true k x.entry.key t), s)
-    go more (inr f) =
-        let h : find xs k ≡ Some v = rw f at e in
-        let m = more h in
-        (suc m.0, omega (arith, m.1), m.2, m.3)
+    go (inl s) more = (0, omega arith, s, grind (arith, nat_tests, e))
+    go (inr d) more = let m = more (grind (arith, nat_tests, e)) in (suc m.0, omega (arith, m.1), m.2, m.3)
 
 pub tree_laws : TreeLaws
 tree_laws = record {

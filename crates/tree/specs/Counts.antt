@@ -1,10 +1,10 @@
 -- That a search tree counts the keys that it holds: the descent for a key has one end, so no two nodes have one key.
 -- It stands here because the impl cites it; there is nothing in it that a reader has to believe.
-use Rattle.std.specs.Prelude.{◌≡◌, ℕ, suc, ◌<◌, true, false, cond, eqb, ltb, ◌≢◌, ◌⊎◌, List, [], ◌∷◌, length, is_some, Some, None, Option, refl}
+use Rattle.std.specs.Prelude.{◌≡◌, ℕ, suc, ◌<◌, cond, ◌≢◌, ◌⊎◌, List, [], ◌∷◌, length, is_some, Some, None, Option, refl}
 use Rattle.std.proofs.Common.{sym, ap, ◌∙◌, subst, inl, inr, arith}
 use Rattle.std.proofs.Math.Logic.{∥∥₁_elim}
 use Rattle.std.proofs.Math.Nat.{ℕ_set}
-use Rattle.std.proofs.lemmas.Bool.{cases_Bool, eqb-true, ne_eqb, lt-ltb, le-ltb}
+use Rattle.std.proofs.lemmas.Bool.Decides.{nat_tests}
 use Rattle.store.specs.Table.{Counted, times}
 use Rattle.tree.specs.declared.arena.Tree.{Tree}
 use Rattle.tree.specs.declared.node.Node.{Node}
@@ -16,19 +16,13 @@ some_none o e f = cc
 
 -- the three ways on from a node
 pub next_lower : (x : Node) (k : ℕ) → k < x.entry.key → next_of x k ≡ x.lower
-next_lower x k h = rw (lt-ltb k x.entry.key h) refl
+next_lower x k h = grind (arith, nat_tests)
 
 pub next_higher : (x : Node) (k : ℕ) → x.entry.key < k → next_of x k ≡ x.higher
-next_higher x k h =
-    let a : ltb k x.entry.key ≡ false = le-ltb k x.entry.key (omega arith) in
-    let b : ltb x.entry.key k ≡ true = lt-ltb x.entry.key k h in
-    rw (a, b) refl
+next_higher x k h = grind (arith, nat_tests)
 
 pub next_own : (x : Node) (k : ℕ) → x.entry.key ≡ k → next_of x k ≡ None
-next_own x k e =
-    let a : ltb k x.entry.key ≡ false = le-ltb k x.entry.key (omega arith) in
-    let b : ltb x.entry.key k ≡ false = le-ltb x.entry.key k (omega arith) in
-    rw (a, b) refl
+next_own x k e = grind (arith, nat_tests)
 
 module _ (xs : List Node) (k : ℕ) where
   -- the first step of a way, if it has one
@@ -84,24 +78,18 @@ length_keys (x ∷ xs) = ap suc (length_keys xs)
 no_times : (xs : List Node) (q : ℕ) → ((i : ℕ) → i < length xs → (at xs i).entry.key ≢ q) → times q (keys xs) ≡ 0
 no_times [] q h = refl
 no_times (x ∷ xs) q h =
-    let e : eqb q x.entry.key ≡ false = ne_eqb q x.entry.key (λ e. h 0 (omega arith) (sym e)) in
-    let t = no_times xs q (λ i l. h (suc i) (omega arith)) in
-    rw e (omega arith)
+    let here : x.entry.key ≢ q = h 0 (omega arith) in
+    let rest = no_times xs q (λ i l. h (suc i) (omega arith)) in
+    grind (arith, nat_tests)
 
 -- a key that one node at most has is counted once or not at all
 once : (xs : List Node) (q : ℕ) → ((i j : ℕ) → i < length xs → j < length xs → (at xs i).entry.key ≡ q → (at xs j).entry.key ≡ q → i ≡ j)
     → times q (keys xs) ≡ cond (is_some (find xs q)) 1 0
 once [] q h = refl
 once (x ∷ xs) q h =
-    go (cases_Bool (eqb q x.entry.key)) (once xs q (λ i j a b v w. let e : suc i ≡ suc j = h (suc i) (suc j) (omega arith) (omega arith) v w in omega arith))
-  where
-    go : (eqb q x.entry.key ≡ true) ⊎ (eqb q x.entry.key ≡ false) → times q (keys xs) ≡ cond (is_some (find xs q)) 1 0
-        → times q (keys (x ∷ xs)) ≡ cond (is_some (find (x ∷ xs) q)) 1 0
-    go (inl t) e =
-        let same = sym (eqb-true q x.entry.key t) in
-        let z = no_times xs q (λ i a w. let e : 0 ≡ suc i = h 0 (suc i) (omega arith) (omega arith) same w in absurd (omega arith)) in
-        rw t (omega arith)
-    go (inr f) e = rw f (omega arith)
+    let alone : x.entry.key ≡ q → times q (keys xs) ≡ 0 = λ e. no_times xs q (λ i a w. let z : 0 ≡ suc i = h 0 (suc i) (omega arith) (omega arith) e w in omega arith) in
+    let rest = once xs q (λ i j a b v w. let z : suc i ≡ suc j = h (suc i) (suc j) (omega arith) (omega arith) v w in omega arith) in
+    grind (arith, nat_tests)
 
 pub counts : (t : Tree) → Counted (tree_table t)
 counts t = record {
