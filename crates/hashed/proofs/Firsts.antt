@@ -1,19 +1,7 @@
 -- Where searches begin.
-use Rattle.std.proofs.Common.{◌≡◌, ℕ, zero, suc, ◌+◌, ◌-◌, ◌*◌, ◌/◌, ◌%◌, ◌^◌, ◌<◌, ◌≤◌, Bool, true, ◌&&◌, leb, ◌⊎◌, refl, inl, inr, arith}
-use Rattle.std.proofs.lemmas.Bool.{and_parts, cases_eq, cases_lt, leb-true}
+use Rattle.std.proofs.Common.{◌≡◌, ℕ, ◌+◌, ◌-◌, ◌*◌, ◌/◌, ◌%◌, ◌^◌, ◌<◌, ◌≤◌, Bool, true, ◌&&◌, leb, ◌⊎◌, refl, inl, inr, arith}
+use Rattle.std.proofs.lemmas.Bool.{agree_below_at, and_parts, cases_lt, leb-true}
 use Rattle.hashed.specs.Places.{home_of}
-
-abbrev every : ℕ → (ℕ → Bool) → Bool
-every zero f = true
-every (suc n) f = f n && every n f
-
-every_below : (n : ℕ) (f : ℕ → Bool) → every n f ≡ true → (b : ℕ) → b < n → f b ≡ true
-every_below zero f h b l = absurd (omega arith)
-every_below (suc n) f h b l = go (and_parts (f n) (every n f) h) (cases_eq b n) (λ g m. every_below n f g b m)
-  where
-    go : (f n ≡ true) × (every n f ≡ true) → (b ≡ n) ⊎ (b ≡ n → ⊥) → (every n f ≡ true → b < n → f b ≡ true) → f b ≡ true
-    go (here, rest) (inl e) more = rw e here
-    go (here, rest) (inr ne) more = more rest (omega arith)
 
 -- how far bit b of the key moves the product: by a place at least, and not all the way round
 abbrev move : ℕ → ℕ
@@ -42,7 +30,7 @@ moved k p low high same =
     moves (k * 2654435761 % 4294967296) (p * 2654435761 % 4294967296) (omega arith) low high (rw a at same)
 
 pub all_bits : (k b : ℕ) → b < 32 → home_of (k + 2 ^ b) ≡ home_of k → ⊥
-all_bits k b l = go (and_parts (leb 33554432 (move b)) (leb (move b) 4261412864) (every_below 32 far refl b l))
+all_bits k b l = go (and_parts (leb 33554432 (move b)) (leb (move b) 4261412864) (agree_below_at far (λ i. true) 32 b refl l))
   where
     go : (leb 33554432 (move b) ≡ true) × (leb (move b) 4261412864 ≡ true) → home_of (k + 2 ^ b) ≡ home_of k → ⊥
     go (low, high) = moved k (2 ^ b) (leb-true 33554432 (move b) low) (leb-true (move b) 4261412864 high)

@@ -18,7 +18,7 @@ use values::refusal::Refusal;
 fn home(key: u32) -> usize
     ensures { result ≡ home_of key }
 {
-    (key.wrapping_mul(2654435761) / 33554432) as usize
+    (key.wrapping_mul(2654435761) >> 25) as usize
 }
 
 // The place where the search for the key ends: that of the key, or else the first empty one.

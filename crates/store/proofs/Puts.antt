@@ -1,11 +1,11 @@
 -- What a put does to a table: how a store shows it, and what follows from it.
-use Rattle.std.proofs.Common.{◌≡◌, ℕ, ◌+◌, ◌<◌, ◌≤◌, Bool, true, false, cond, not, leb, ◌≢◌, ◌⊎◌, ◌∷◌, is_some, Some, None, Ok, Err, Option, Result, sym, refl, ◌∙◌, subst, inl, inr, arith}
+use Rattle.std.proofs.Common.{◌≡◌, ℕ, ◌+◌, ◌<◌, ◌≤◌, Bool, true, false, cond, not, leb, ◌≢◌, ◌⊎◌, ◌∷◌, is_some, Some, None, Ok, Err, Option, unwrap_or, Result, sym, refl, ◌∙◌, subst, inl, inr, arith}
 use Rattle.std.proofs.lemmas.Bool.Decides.{nat_tests}
 use Rattle.std.proofs.lemmas.Bool.{cases_Bool, and_parts, not-true, leb-true}
 use Rattle.values.specs.declared.refusal.Refusal.{Refusal}
 use Rattle.values.specs.declared.refusal.Refusal.TheVariants.{StoreFull}
 use Rattle.store.specs.declared.Row.{Row}
-use Rattle.store.specs.Table.{Table, Put, Counted, has, row_or_null, null_row, with_row, full_for, stored}
+use Rattle.store.specs.Table.{Table, Put, Counted, has, null_row, with_row, full_for, stored}
 use Rattle.store.specs.Laws.{PutDone, PutRefused, StoreLaws}
 
 pub same_table : (t u : Table) → ((q : ℕ) → t.look q ≡ u.look q) → t.held ≡ u.held → t.most ≡ u.most → t ≡ u
@@ -92,11 +92,11 @@ counted t t' k v (Ok tt) c p = subst Counted (sym (is_stored t t' k v p)) (go (c
     go (inl h) = counted_again t k v c h
     go (inr h) = counted_new t k v c h ((done t t' k v p).room h)
 
-absent : (o : Option Row) → is_some o ≡ false → row_or_null o ≡ null_row
+absent : (o : Option Row) → is_some o ≡ false → unwrap_or o null_row ≡ null_row
 absent None h = refl
 absent (Some v) h = cc
 
-present : (o : Option Row) → is_some o ≡ true → o ≡ Some (row_or_null o)
+present : (o : Option Row) → is_some o ≡ true → o ≡ Some (unwrap_or o null_row)
 present None h = cc
 present (Some v) h = refl
 

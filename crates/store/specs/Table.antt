@@ -1,5 +1,5 @@
 -- What a store means: which row each key has, how many rows are held, and how many may be.
-use Rattle.std.specs.Prelude.{◌≡◌, ℕ, ◌+◌, ◌≤◌, Bool, cond, not, ◌&&◌, List, [], ◌∷◌, length, is_some, Some, None, Ok, Err, Option, Result, ◌==◌, nat_le}
+use Rattle.std.specs.Prelude.{◌≡◌, ℕ, ◌+◌, ◌≤◌, Bool, cond, not, ◌&&◌, List, [], ◌∷◌, length, is_some, Some, None, Ok, Err, Option, unwrap_or, Result, ◌==◌, nat_le}
 use Rattle.values.specs.declared.refusal.Refusal.{Refusal}
 use Rattle.values.specs.declared.refusal.Refusal.TheVariants.{StoreFull, BadCapacity}
 use Rattle.values.specs.Times.{null}
@@ -28,17 +28,13 @@ has t k = is_some (t.look k)
 abbrev pub null_row : Row
 null_row = record { value = None; version = null; reader = null }
 
-abbrev pub row_or_null : Option Row → Row
-row_or_null None = null_row
-row_or_null (Some v) = v
-
 -- the row of the entry, if it has key k
 abbrev pub row_at : Entry → ℕ → Option Row
 row_at e k = cond (e.key == k) (Some e.row) None
 
 -- the row of key k, the null row where none is held
 abbrev pub row_of : Table → ℕ → Row
-row_of t k = row_or_null (t.look k)
+row_of t k = unwrap_or (t.look k) null_row
 
 -- no place for a new key
 abbrev pub full_for : Table → ℕ → Bool

@@ -108,7 +108,7 @@ fn ascending_and_descending_keys(rt: HostRuntime) -> Result<(), Fail> {
 // The first 64 keys whose search in a hashed table begins at the place.
 fn keys_that_share(alloc: Global, place: u32) -> Result<Vec<u32>, AllocError> {
     (1..20000u32)
-        .filter(|key| key.wrapping_mul(2654435761) / 33554432 == place)
+        .filter(|key| key.wrapping_mul(2654435761) >> 25 == place)
         .take(64)
         .collect(alloc)
 }
