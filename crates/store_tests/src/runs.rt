@@ -8,26 +8,25 @@ use tree::arena::Tree;
 use values::refusal::Refusal;
 use values::timestamp::Timestamp;
 
-// Which keys a run has.
-#[derive(Clone, Copy)]
-pub enum Spread {
-    Dense,
-    Modulo64,
-    Modulo128,
-    Highest,
-    Any,
+// Which keys a run has: dense ones, ones that are equal modulo 64 or 128, the highest, any.
+pub fn dense(n: u32) -> u32 {
+    n % 80
 }
 
-impl Spread {
-    pub fn key(self, n: u32) -> u32 {
-        match self {
-            Spread::Dense => n % 80,
-            Spread::Modulo64 => n % 80 * 64,
-            Spread::Modulo128 => n % 80 * 128,
-            Spread::Highest => 4294967295 - n % 80,
-            Spread::Any => n,
-        }
-    }
+pub fn modulo_64(n: u32) -> u32 {
+    n % 80 * 64
+}
+
+pub fn modulo_128(n: u32) -> u32 {
+    n % 80 * 128
+}
+
+pub fn highest(n: u32) -> u32 {
+    4294967295 - n % 80
+}
+
+pub fn any(n: u32) -> u32 {
+    n
 }
 
 // The next of a row of numbers that look like chance; the upper bits are the better ones.
@@ -45,16 +44,18 @@ pub fn row(n: u32) -> Row {
 }
 
 // Puts and looks in turn, and at the end a look at many keys.
-fn run<S: Store + Drop>(
+fn run<S: Store + Drop, K: Fn(u32) -> u32>(
     rt: &impl Abort,
     mut compared: Compared<S>,
-    spread: Spread,
+    key_of: &K,
     seed: u32,
-) -> Result<(), Fail> {
+) -> Result<(), Fail>
+    requires { K.IsAlwaysCallable key_of.now }
+{
     let mut n = seed;
     for _ in 0..1000u32 {
         n = next(n);
-        let key = spread.key(n / 65536);
+        let key = key_of(n / 65536);
         if n / 16777216 % 3 == 0 {
             compared.look(rt, key);
         } else {
@@ -62,28 +63,29 @@ fn run<S: Store + Drop>(
         }
     }
     for i in 0..80u32 {
-        compared.look(rt, spread.key(i));
+        compared.look(rt, key_of(i));
     }
     Ok(())
 }
 
 // The run on a store of each kind, and on either.
-pub fn all_run(
+pub fn all_run<K: Fn(u32) -> u32 + Drop>(
     rt: &impl Abort,
     alloc: Global,
     capacity: usize,
-    spread: Spread,
+    key_of: K,
     seed: u32,
-) -> Result<(), Fail> {
-    run(
-        rt,
-        Compared::new(alloc, capacity, Hashed::new)?,
-        spread,
-        seed,
-    )?;
-    run(rt, Compared::new(alloc, capacity, Tree::new)?, spread, seed)?;
-    run(rt, Compared::new(alloc, capacity, left)?, spread, seed)?;
-    run(rt, Compared::new(alloc, capacity, right)?, spread, seed)
+) -> Result<(), Fail>
+    requires { K.IsAlwaysCallable key_of }
+{
+    let hashed = Compared::new(alloc, capacity, Hashed::new)?;
+    run(rt, hashed, &key_of, seed)?;
+    let tree = Compared::new(alloc, capacity, Tree::new)?;
+    run(rt, tree, &key_of, seed)?;
+    let left = Compared::new(alloc, capacity, left)?;
+    run(rt, left, &key_of, seed)?;
+    let right = Compared::new(alloc, capacity, right)?;
+    run(rt, right, &key_of, seed)
 }
 
 pub fn left(capacity: usize) -> Result<Either<Hashed, Tree>, Refusal> {

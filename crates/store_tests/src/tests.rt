@@ -11,34 +11,39 @@ use values::refusal::Refusal;
 
 #[test]
 fn runs_over_dense_keys(rt: HostRuntime) -> Result<(), Fail> {
-    all_run(&rt, rt.alloc(), 64, Spread::Dense, 1)?;
-    all_run(&rt, rt.alloc(), 40, Spread::Dense, 2)?;
-    all_run(&rt, rt.alloc(), 2, Spread::Dense, 3)?;
-    all_run(&rt, rt.alloc(), 1, Spread::Dense, 4)
+    all_run(&rt, rt.alloc(), 64, dense, 1)?;
+    all_run(&rt, rt.alloc(), 40, dense, 2)?;
+    all_run(&rt, rt.alloc(), 2, dense, 3)?;
+    all_run(&rt, rt.alloc(), 1, dense, 4)
 }
 
 #[test]
 fn runs_over_keys_equal_modulo_64(rt: HostRuntime) -> Result<(), Fail> {
-    all_run(&rt, rt.alloc(), 64, Spread::Modulo64, 5)?;
-    all_run(&rt, rt.alloc(), 33, Spread::Modulo64, 6)
+    all_run(&rt, rt.alloc(), 64, modulo_64, 5)?;
+    all_run(&rt, rt.alloc(), 33, modulo_64, 6)
 }
 
 #[test]
 fn runs_over_keys_equal_modulo_128(rt: HostRuntime) -> Result<(), Fail> {
-    all_run(&rt, rt.alloc(), 64, Spread::Modulo128, 7)?;
-    all_run(&rt, rt.alloc(), 33, Spread::Modulo128, 8)
+    all_run(&rt, rt.alloc(), 64, modulo_128, 7)?;
+    all_run(&rt, rt.alloc(), 33, modulo_128, 8)
 }
 
 #[test]
 fn runs_over_the_highest_keys(rt: HostRuntime) -> Result<(), Fail> {
-    all_run(&rt, rt.alloc(), 64, Spread::Highest, 9)?;
-    all_run(&rt, rt.alloc(), 50, Spread::Highest, 10)
+    all_run(&rt, rt.alloc(), 64, highest, 9)?;
+    all_run(&rt, rt.alloc(), 50, highest, 10)
 }
 
 #[test]
 fn runs_over_any_keys(rt: HostRuntime) -> Result<(), Fail> {
-    all_run(&rt, rt.alloc(), 64, Spread::Any, 11)?;
-    all_run(&rt, rt.alloc(), 63, Spread::Any, 4294967295)
+    all_run(&rt, rt.alloc(), 64, any, 11)?;
+    all_run(&rt, rt.alloc(), 63, any, 4294967295)
+}
+
+// A refusal as a user meets it.
+fn numbered(refusal: Refusal) -> (u8, Option<usize>) {
+    (refusal.number(), refusal.value())
 }
 
 // Fills the store with the keys: each is new, then held, and one key more is refused by its name.
@@ -56,8 +61,8 @@ fn fill<S: Store + Drop>(
     }
     assert_eq!(rt; compared.store.free(), 0);
     assert_eq!(rt;
-        compared.store.put(more, row(3)),
-        Err(Refusal::StoreFull { key: more })
+        compared.store.put(more, row(3)).map_err(numbered),
+        Err((15, Some(more as usize)))
     );
     assert!(rt; !compared.store.holds(more));
     for key in keys {
@@ -127,8 +132,8 @@ fn keys_that_share_their_first_place(rt: HostRuntime) -> Result<(), Fail> {
 #[test]
 fn capacities(rt: HostRuntime) -> Result<(), Fail> {
     for capacity in [0, 65, 128, usize::MAX] {
-        assert_eq!(rt; Hashed::new(capacity).err(), Some(Refusal::BadCapacity));
-        assert_eq!(rt; Tree::new(capacity).err(), Some(Refusal::BadCapacity));
+        assert_eq!(rt; Hashed::new(capacity).err().map(u8::from), Some(17));
+        assert_eq!(rt; Tree::new(capacity).err().map(u8::from), Some(17));
     }
     for capacity in 1..65usize {
         assert_eq!(rt; Hashed::new(capacity)?.free(), capacity);
@@ -147,8 +152,8 @@ fn holds_null<S: Store + Drop>(rt: &impl Abort, mut store: S) {
     assert_eq!(rt; store.get(8), Row::null());
     assert_eq!(rt; store.free(), 0);
     assert_eq!(rt;
-        store.put(7, Row::null()),
-        Err(Refusal::StoreFull { key: 7 })
+        store.put(7, Row::null()).map_err(numbered),
+        Err((15, Some(7)))
     );
     assert!(rt; !store.holds(7));
 }
