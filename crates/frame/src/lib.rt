@@ -5,3 +5,4 @@ pub mod carried;
 pub mod encoded;
 pub mod message;
 pub mod reader;
+pub mod rows;

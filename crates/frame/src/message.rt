@@ -1,18 +1,19 @@
 // The seven messages.
 
-ghost use Rattle.std.specs.Prelude.{◌≡◌};
-ghost use Rattle.frame.specs.Messages.{header, parts};
+ghost use Rattle.std.specs.Prelude.{◌≡◌, ◌≤◌, length};
 
 use layout::format::Header;
 use values::decision::{Outcome, Proposal, Vote};
 
-// A content as a frame holds it: 9 bytes for each read, 8 for each write.
+// A content as a frame holds it: 9 bytes for each read, 8 for each write, and at most four of each.
 // The fields are private: only reading a frame, or a content, makes one.
 #[derive(Clone, Copy)]
 pub struct Parts<'a> {
     pub(crate) second: u32,
     pub(crate) reads: &'a [u8],
     pub(crate) writes: &'a [u8],
+    ghost few_reads: { length reads.now ≤ 36 },
+    ghost few_writes: { length writes.now ≤ 32 },
 }
 
 #[derive(Clone, Copy)]
@@ -90,6 +91,8 @@ impl<'a> Parts<'a> {
 }
 
 impl<'a> Message<'a> {
+    ghost use Rattle.frame.specs.Messages.{header, parts};
+
     // The letter of the kind.
     pub fn kind(&self) -> char
         ensures { result ≡ (header self.now).kind }

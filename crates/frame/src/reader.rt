@@ -89,7 +89,9 @@ fn check_content_at(bytes: &[u8]) -> Result<(), Refusal>
 
 // The parts of the bytes that hold a content.
 fn parts_at(bytes: &[u8]) -> Parts<'_>
-    requires { 19 + 9 * slice_index bytes.now 17 + 8 * slice_index bytes.now 18 ≤ length bytes.now }
+    requires few_reads { slice_index bytes.now 17 ≤ 4 }
+    requires few_writes { slice_index bytes.now 18 ≤ 4 }
+    requires whole { 19 + 9 * slice_index bytes.now 17 + 8 * slice_index bytes.now 18 ≤ length bytes.now }
     ensures { PartsIn bytes.now result }
 {
     let (reads, writes) = counts_at(bytes);

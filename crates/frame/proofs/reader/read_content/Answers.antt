@@ -8,7 +8,7 @@ use Rattle.frame.proofs.reader.read_content.Goals as goal
 pub parts_at-requires : goal.parts_at-requires
 parts_at-requires c =
     let b = c.args.bytes.now in
-    let o = (whole_part (length b) (get_or b 6 0) (content_in b) c.in_ok-check_content_at.ensures).room in
+    let o = whole_part (length b) (get_or b 6 0) (content_in b) c.in_ok-check_content_at.ensures in
     let lr = length_rows reading (get_or b 17 0) (drop 19 b) in
     let lw = length_rows writing (get_or b 18 0) (drop (9 * get_or b 17 0) (drop 19 b)) in
-    omega arith
+    omega (arith, o.few_reads, o.few_writes, o.room)
