@@ -91,7 +91,7 @@ impl<'a> Parts<'a> {
 }
 
 impl<'a> Message<'a> {
-    ghost use Rattle.frame.specs.Messages.{header, parts};
+    ghost use Rattle.frame.specs.Messages.{accepted_number, accepted_view, header, parts};
 
     // The letter of the kind.
     pub fn kind(&self) -> char
@@ -121,99 +121,83 @@ impl<'a> Message<'a> {
         }
     }
 
+    fn transaction(&self) -> u32
+        ensures { result ≡ (header self.now).transaction }
+    {
+        match self {
+            Message::Prepare { transaction, .. }
+            | Message::Voted { transaction, .. }
+            | Message::Accept { transaction, .. }
+            | Message::Accepted { transaction, .. }
+            | Message::Decide { transaction, .. }
+            | Message::ChangeView { transaction, .. }
+            | Message::Report { transaction, .. } => *transaction,
+        }
+    }
+
+    fn sender(&self) -> u32
+        ensures { result ≡ (header self.now).sender }
+    {
+        match self {
+            Message::Prepare { sender, .. }
+            | Message::Voted { sender, .. }
+            | Message::Accept { sender, .. }
+            | Message::Accepted { sender, .. }
+            | Message::Decide { sender, .. }
+            | Message::ChangeView { sender, .. }
+            | Message::Report { sender, .. } => *sender,
+        }
+    }
+
+    fn view(&self) -> u32
+        ensures { result ≡ (header self.now).view }
+    {
+        match self {
+            Message::Accept { view, .. }
+            | Message::Accepted { view, .. }
+            | Message::ChangeView { view, .. }
+            | Message::Report { view, .. } => *view,
+            _ => 0,
+        }
+    }
+
+    // The number of the vote or the outcome.
+    fn code(&self) -> u32
+        ensures { result ≡ (header self.now).code }
+    {
+        match self {
+            Message::Voted { vote, .. } => u32::from(*vote),
+            Message::Accept { outcome, .. } | Message::Decide { outcome, .. } => {
+                u32::from(*outcome)
+            }
+            Message::Report { vote, .. } => Vote::number(*vote),
+            _ => 0,
+        }
+    }
+
+    fn accepted(&self) -> Option<Proposal>
+        ensures number { accepted_number result ≡ (header self.now).accepted }
+        ensures view { accepted_view result ≡ (header self.now).accepted_view }
+    {
+        match self {
+            Message::Report { accepted, .. } => *accepted,
+            _ => None,
+        }
+    }
+
     // The letter of the kind, and the numbers between it and the content.
     pub fn header(&self) -> Header
         ensures { result ≡ header self.now }
     {
-        let none = Header {
+        let accepted = self.accepted();
+        Header {
             kind: self.kind(),
-            transaction: 0,
-            sender: 0,
-            view: 0,
-            code: 0,
-            accepted: 0,
-            accepted_view: 0,
-        };
-        match *self {
-            Message::Prepare {
-                transaction,
-                sender,
-                ..
-            } => Header {
-                transaction,
-                sender,
-                ..none
-            },
-            Message::Voted {
-                transaction,
-                sender,
-                vote,
-            } => Header {
-                transaction,
-                sender,
-                code: Vote::number(Some(vote)),
-                ..none
-            },
-            Message::Accept {
-                transaction,
-                sender,
-                view,
-                outcome,
-                ..
-            } => Header {
-                transaction,
-                sender,
-                view,
-                code: outcome.number(),
-                ..none
-            },
-            Message::Accepted {
-                transaction,
-                sender,
-                view,
-            } => Header {
-                transaction,
-                sender,
-                view,
-                ..none
-            },
-            Message::Decide {
-                transaction,
-                sender,
-                outcome,
-                ..
-            } => Header {
-                transaction,
-                sender,
-                code: outcome.number(),
-                ..none
-            },
-            Message::ChangeView {
-                transaction,
-                sender,
-                view,
-            } => Header {
-                transaction,
-                sender,
-                view,
-                ..none
-            },
-            Message::Report {
-                transaction,
-                sender,
-                view,
-                vote,
-                accepted,
-                ..
-            } => Header {
-                transaction,
-                sender,
-                view,
-                code: Vote::number(vote),
-                accepted: accepted.map_or(0, |proposal| proposal.outcome.number()),
-                accepted_view: accepted.map_or(0, |proposal| proposal.view),
-                ..none
-            },
+            transaction: self.transaction(),
+            sender: self.sender(),
+            view: self.view(),
+            code: self.code(),
+            accepted: accepted.map_or(0, |proposal| u32::from(proposal.outcome)),
+            accepted_view: accepted.map_or(0, |proposal| proposal.view),
         }
     }
 }

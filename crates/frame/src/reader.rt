@@ -1,13 +1,12 @@
 // Reading a frame.
 
 ghost use Rattle.std.specs.Prelude.{◌≡◌, ◌+◌, ◌*◌, ◌≤◌, ◌++◌, length, drop, Some, slice_index};
-ghost use Rattle.values.specs.Numbers.{vote_number, outcome_number};
 ghost use Rattle.field.specs.Layouts.{Checked, Checking};
 ghost use Rattle.layout.specs.Values.{flag, size};
 ghost use Rattle.layout.specs.Numbers.{reading, writing, rows_in};
 ghost use Rattle.layout.specs.Format.{header_fields, content_fields, part_fields};
 ghost use Rattle.layout.specs.Frames.{header_in, content_in, part_in, mark_fields, ending};
-ghost use Rattle.frame.specs.Messages.{value, accepted_number, accepted_view, content_of, Ruled, PartsIn, PartsOf, Reads, Yields, OneFrame, parts};
+ghost use Rattle.frame.specs.Messages.{value, content_of, Ruled, PartsIn, PartsOf, Reads, Yields, OneFrame, parts};
 
 use crate::message::{Message, Parts};
 use bounded::Bounded;
@@ -126,42 +125,6 @@ fn read_content(bytes: &[u8]) -> Result<Option<Parts<'_>>, Refusal>
     Ok(Some(parts_at(bytes)))
 }
 
-// The vote or the outcome with a number that is known to have one.
-fn outcome_of(number: u32) -> Outcome
-    requires least { 1 ≤ number }
-    requires most { number ≤ 2 }
-    ensures { outcome_number result ≡ number }
-{
-    match number {
-        2 => Outcome::Commit,
-        _ => Outcome::Abort,
-    }
-}
-
-fn vote_of(number: u32) -> Option<Vote>
-    requires { number ≤ 2 }
-    ensures { vote_number result ≡ number }
-{
-    match number {
-        0 => None,
-        1 => Some(Vote::No),
-        _ => Some(Vote::Yes),
-    }
-}
-
-fn accepted_of(number: u32, view: u32) -> Option<Proposal>
-    requires most { number ≤ 2 }
-    requires none { number ≡ 0 → view ≡ 0 }
-    ensures number { accepted_number result ≡ number }
-    ensures view { accepted_view result ≡ view }
-{
-    if number == 0 {
-        return None;
-    }
-    let outcome = outcome_of(number);
-    Some(Proposal { view, outcome })
-}
-
 // Where the frame ends.
 fn end_of(bytes: &[u8]) -> usize
     ensures { result ≡ size (part_in bytes.now) }
@@ -186,6 +149,7 @@ fn end_field(length: usize, end: usize) -> Field
 }
 
 // The message of a header that obeys its rules with this content.
+#[tactic(auto, using(crate::proofs::Numbers::outcome_known, crate::proofs::Numbers::vote_known))]
 fn message_of<'a>(header: &Header, content: Option<Parts<'a>>) -> Message<'a>
     requires { Ruled header.now (flag (content_of content)) }
     ensures means { (value result).header ≡ header.now }
@@ -209,13 +173,13 @@ fn message_of<'a>(header: &Header, content: Option<Parts<'a>>) -> Message<'a>
         ('V', _) => Message::Voted {
             transaction,
             sender,
-            vote: if code == 2 { Vote::Yes } else { Vote::No },
+            vote: Vote::try_from(code).unwrap(),
         },
         ('A', content) => Message::Accept {
             transaction,
             sender,
             view,
-            outcome: outcome_of(code),
+            outcome: Outcome::try_from(code).unwrap(),
             content,
         },
         ('B', _) => Message::Accepted {
@@ -226,7 +190,7 @@ fn message_of<'a>(header: &Header, content: Option<Parts<'a>>) -> Message<'a>
         ('D', content) => Message::Decide {
             transaction,
             sender,
-            outcome: outcome_of(code),
+            outcome: Outcome::try_from(code).unwrap(),
             content,
         },
         ('C', _) => Message::ChangeView {
@@ -234,16 +198,17 @@ fn message_of<'a>(header: &Header, content: Option<Parts<'a>>) -> Message<'a>
             sender,
             view,
         },
-        (_, content) => {
-            Message::Report {
-                transaction,
-                sender,
-                view,
-                vote: vote_of(code),
-                accepted: accepted_of(accepted, accepted_view),
-                content,
-            }
-        }
+        (_, content) => Message::Report {
+            transaction,
+            sender,
+            view,
+            vote: Vote::from_number(code).unwrap(),
+            accepted: Outcome::try_from(accepted).ok().map(|outcome| Proposal {
+                view: accepted_view,
+                outcome,
+            }),
+            content,
+        },
     }
 }
 
