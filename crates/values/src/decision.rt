@@ -1,6 +1,6 @@
 ghost use Rattle.std.specs.Prelude.{◌≡◌, Some};
 ghost use Rattle.order.specs.Extremes.{Greatest};
-ghost use Rattle.values.specs.Numbers.{vote_number, outcome_number, Numbered, Decodes};
+ghost use Rattle.values.specs.Numbers.{vote_number, outcome_number, Decodes};
 ghost use Rattle.values.specs.Proposals.{lower};
 ghost use Rattle.values.specs.Words.{unknown_words};
 
@@ -110,21 +110,6 @@ impl TryFrom<u32> for Outcome {
             2 => Ok(Outcome::Commit),
             _ => Err(UnknownNumber(number)),
         }
-    }
-}
-
-impl Outcome {
-    // The number of an outcome in a message.
-    pub fn number(self) -> u32
-        ensures { result ≡ outcome_number self }
-    {
-        u32::from(self)
-    }
-
-    pub fn from_number(number: u32) -> Option<Outcome>
-        ensures { Numbered outcome_number number result }
-    {
-        Outcome::try_from(number).ok()
     }
 }
 
