@@ -1,5 +1,6 @@
 -- What a reader has checked, put together.
-use Rattle.std.proofs.Common.{◌≡◌, ℕ, ◌+◌, ◌*◌, ◌/◌, ◌≤◌, Bool, cond, leb, List, [], length, get_or, take, drop, is_some, Some, None, Ok, Err, Option, Result, sym, ap, ◌∙◌, subst, append-nil, arith, length-drop, length-take-le, drop-drop, eq-eqb, ne_eqb}
+use Rattle.std.proofs.Common.{◌≡◌, ℕ, ◌+◌, ◌*◌, ◌/◌, ◌≤◌, Bool, cond, leb, List, [], length, get_or, take, drop, is_some, Some, None, Ok, Err, Option, Result, sym, refl, ap, ◌∙◌, subst, append-nil, arith, length-drop, length-take-le, drop-drop, eq-eqb, ne_eqb}
+use Rattle.std.specs.Option.{option_map_or}
 use Rattle.std.proofs.lemmas.Bool.{and_parts}
 use Rattle.values.specs.declared.refusal.Refusal.{Refusal}
 use Rattle.field.specs.Layouts.{Passes}
@@ -24,11 +25,15 @@ announced b h = ap (λ (t : Bool). cond t (Some (content_in b)) None) (eq-eqb (g
 pub not_announced : (b : List ℕ) → (get_or b 12 0 ≡ 1 → ⊥) → part_in b ≡ None
 not_announced b h = ap (λ (t : Bool). cond t (Some (content_in b)) None) (ne_eqb (get_or b 12 0) 1 h)
 
-pub size_announced : (b : List ℕ) → get_or b 12 0 ≡ 1 → size (part_in b) ≡ 19 + 9 * get_or b 17 0 + 8 * get_or b 18 0
-size_announced b h =
-    let lr = length_rows reading (get_or b 17 0) (drop 19 b) in
-    let lw = length_rows writing (get_or b 18 0) (drop (9 * get_or b 17 0) (drop 19 b)) in
-    ap size (announced b h) ∙ (λ i. 19 + 9 * lr i + 8 * lw i)
+-- how long a frame with these parts is
+pub size_held : (o : Option Parts) → size (content_of o) ≡ option_map_or (λ (p : Parts). 19 + length p.reads.now + length p.writes.now) o 13
+size_held None = refl
+size_held (Some p) =
+    let lr = length_rows reading (length p.reads.now / 9) p.reads.now in
+    let lw = length_rows writing (length p.writes.now / 8) p.writes.now in
+    let r = p.whole_reads in
+    let w = p.whole_writes in
+    omega arith
 
 -- the rows of a part of just their length
 pub rows_of_part : {X : Type 0} {l : Layout X} {Fit : X → Type 0} (e : Exact l Fit) (n : ℕ) (b : List ℕ) → width l * n ≤ length b → Bytes b → rows_in l n (take (width l * n) b) ≡ rows_in l n b

@@ -1,6 +1,6 @@
 // The seven messages.
 
-ghost use Rattle.std.specs.Prelude.{◌≡◌, ◌≤◌, length};
+ghost use Rattle.std.specs.Prelude.{◌≡◌, ◌%◌, ◌≤◌, length};
 
 use layout::format::Header;
 use values::decision::{Outcome, Proposal, Vote};
@@ -14,6 +14,8 @@ pub struct Parts<'a> {
     pub(crate) writes: &'a [u8],
     ghost few_reads: { length reads.now ≤ 36 },
     ghost few_writes: { length writes.now ≤ 32 },
+    ghost whole_reads: { length reads.now % 9 ≡ 0 },
+    ghost whole_writes: { length writes.now % 8 ≡ 0 },
 }
 
 #[derive(Clone, Copy)]

@@ -125,22 +125,12 @@ fn read_content(bytes: &[u8]) -> Result<Option<Parts<'_>>, Refusal>
     Ok(Some(parts_at(bytes)))
 }
 
-// Where the frame ends.
-fn end_of(bytes: &[u8]) -> usize
-    ensures { result ≡ size (part_in bytes.now) }
+// Nothing follows the end of a frame with this content.
+#[tactic(auto, using(crate::proofs::Read::size_held))]
+fn end_field(length: usize, content: Option<Parts<'_>>) -> Field
+    ensures { result ≡ ending length (size (content_of content.entry)) }
 {
-    if byte_at(bytes, 12) == 1 {
-        let (reads, writes) = counts_at(bytes);
-        19 + 9 * reads + 8 * writes
-    } else {
-        13
-    }
-}
-
-// Nothing follows the end of the frame.
-fn end_field(length: usize, end: usize) -> Field
-    ensures { result ≡ ending length end }
-{
+    let end = content.map_or(13, |parts| 19 + parts.reads.len() + parts.writes.len());
     Field {
         place: end,
         width: 0,
@@ -218,8 +208,7 @@ fn read(bytes: &[u8]) -> Result<Message<'_>, Refusal>
 {
     let header = read_header(bytes)?;
     let content = read_content(bytes)?;
-    let end = end_field(bytes.len(), end_of(bytes));
-    check(&[end], bytes.len())?;
+    check(&[end_field(bytes.len(), content)], bytes.len())?;
     Ok(message_of(&header, content))
 }
 

@@ -5,7 +5,7 @@ use Rattle.field.specs.Layouts.{Passes}
 use Rattle.field.proofs.Faults.{before, after, pass_both, pass_last, same_breaks, same_passes}
 use Rattle.layout.specs.declared.format.Header.{Header}
 use Rattle.frame.specs.declared.message.Parts.{Parts}
-use Rattle.layout.specs.Values.{Value}
+use Rattle.layout.specs.Values.{Part, Value, size}
 use Rattle.layout.specs.Format.{header_fields, part_fields}
 use Rattle.layout.specs.Frames.{frame, Lawful, header_in, part_in, value_in, mark_fields, ending, end_field, byte_fields}
 use Rattle.frame.specs.Messages.{value, content_of, Ruled, PartsOf}
@@ -35,7 +35,11 @@ returns-in_err-content c =
 pub returns-in_err-check : goal.returns-in_err-check
 returns-in_err-check c =
     let b = c.args.bytes.now in
-    let e = ap (λ (f : Field). f ∷ []) (c.end_field-end.ensures ∙ ap (λ (k : ℕ). ending (length b) k) c.end_of.ensures) in
+    let n = length b in
+    let f : Bytes b = λ i. omega (arith, c.type_inv.bytes i) in
+    let k = c.in_ok-content.ensures in
+    let content = content_is b f c.in_ok-content.content k.1 k.0 in
+    let e = ap (λ (f : Field). f ∷ []) (c.end_field.ensures ∙ ap (λ (o : Option Part). ending n (size o)) content) in
     let p = err_from_is_err_and c.from_residual-in_err-check.result c.from_residual-in_err-check.ensures.1 in
     rw (p.1, p.2) (after (front b) c.in_ok-header.ensures.0 (after (part_fields (get_or b 6 0) (part_in b)) c.in_ok-content.ensures.0 (same_breaks e c.in_err-check.ensures.verdict)))
 
@@ -56,9 +60,9 @@ returns c =
     let h = c.in_ok-header.ensures in
     let k = c.in_ok-content.ensures in
     let part = part_fields (get_or b 6 0) (part_in b) in
-    let e = ap (λ (f : Field). f ∷ []) (c.end_field-end.ensures ∙ ap (λ (k : ℕ). ending (length b) k) c.end_of.ensures) in
-    let q : Passes n (byte_fields b) = pass_both n (front b) (part ++ (end_field b ∷ [])) h.0 (pass_both n part (end_field b ∷ []) k.0 (same_passes n e c.in_ok-check.ensures.verdict)) in
     let content = content_is b f c.in_ok-content.content k.1 k.0 in
+    let e = ap (λ (f : Field). f ∷ []) (c.end_field.ensures ∙ ap (λ (o : Option Part). ending n (size o)) content) in
+    let q : Passes n (byte_fields b) = pass_both n (front b) (part ++ (end_field b ∷ [])) h.0 (pass_both n part (end_field b ∷ []) k.0 (same_passes n e c.in_ok-check.ensures.verdict)) in
     let v : value_in b ≡ value c.message_of.result = sym (λ i. record {
       header = (c.message_of.ensures.means ∙ h.1) i;
       content = (ap content_of c.message_of.ensures.holds ∙ content) i;

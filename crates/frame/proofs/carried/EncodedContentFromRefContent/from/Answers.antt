@@ -1,4 +1,5 @@
-use Rattle.std.proofs.Common.{length, ap, arith}
+use Rattle.std.proofs.Common.{length, ap, subst, arith}
+use Rattle.bounded.specs.Lists.{Held}
 use Rattle.bounded.proofs.Room.{held}
 use Rattle.content.specs.Contents.{body}
 use Rattle.content.proofs.Whole.{sound_tested}
@@ -19,3 +20,11 @@ unwrap-requires-2 c =
     let n = length_laid writing exact_write.long c.writes.result.now in
     let e = ap length c.writes.ensures in
     held 32 (laid writing c.writes.result.now) c.rows_bytes-2.result (omega arith) c.rows_bytes-2.ensures
+
+pub invariant_of-result : goal.invariant_of-result
+invariant_of-result c =
+    let nr = length_laid reading exact_read.long c.reads.result.now in
+    let nw = length_laid writing exact_write.long c.writes.result.now in
+    let r = ap length (subst (Held 36 (laid reading c.reads.result.now)) c.unwrap.ensures c.rows_bytes.ensures).1 in
+    let w = ap length (subst (Held 32 (laid writing c.writes.result.now)) c.unwrap-2.ensures c.rows_bytes-2.ensures).1 in
+    record { whole_reads = omega arith; whole_writes = omega arith }
