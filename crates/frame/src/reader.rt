@@ -45,29 +45,6 @@ fn header_of(kind: char, bytes: &[u8]) -> Header
     }
 }
 
-// Checks a content with at most four rows of each kind.
-fn check_rows_at(
-    bytes: &[u8],
-    reads: usize,
-    writes: usize,
-    timestamp: Timestamp,
-) -> Result<(), Refusal>
-    requires few_reads { reads ≤ 4 }
-    requires few_writes { writes ≤ 4 }
-    ensures { let rows = drop 19 bytes.now in
-        Checked (length bytes.now) (content_fields timestamp (rows_in reading reads rows) (rows_in writing writes (drop (9 * reads) rows))) result }
-{
-    let rows = tail_at(bytes, 19);
-    let read_rows: Bounded<Read, 4> = rows_in(rows, reads);
-    let write_rows: Bounded<Write, 4> = rows_in(tail_at(rows, 9 * reads), writes);
-    check_content(
-        timestamp,
-        read_rows.as_slice(),
-        write_rows.as_slice(),
-        bytes.len(),
-    )
-}
-
 // How many reads and writes a content has.
 fn counts_at(bytes: &[u8]) -> (usize, usize)
     ensures reads { result.0 ≡ slice_index bytes.now 17 }
@@ -83,7 +60,15 @@ fn check_content_at(bytes: &[u8]) -> Result<(), Refusal>
     let (reads, writes) = counts_at(bytes);
     check(&count_fields(reads, writes), bytes.len())?;
     let timestamp = Timestamp::new(number_at(bytes, 13), u32::from(byte_at(bytes, 6)));
-    check_rows_at(bytes, reads, writes, timestamp)
+    let rows = tail_at(bytes, 19);
+    let read_rows: Bounded<Read, 4> = rows_in(rows, reads);
+    let write_rows: Bounded<Write, 4> = rows_in(tail_at(rows, 9 * reads), writes);
+    check_content(
+        timestamp,
+        read_rows.as_slice(),
+        write_rows.as_slice(),
+        bytes.len(),
+    )
 }
 
 // The parts of the bytes that hold a content.
