@@ -16,7 +16,7 @@ use values::refusal::Refusal;
 use values::timestamp::Timestamp;
 
 // The length of the longest frame.
-pub(crate) const LONGEST: usize = 87;
+const LONGEST: usize = 87;
 
 // Checks every number in the order of the frame.
 fn check_fields(fields: &Fields<'_>) -> Result<(), Refusal>
@@ -43,7 +43,7 @@ fn frame_length(fields: &Fields<'_>) -> usize
     }
 }
 
-// The bytes before the content.
+// The bytes before the content; the rules keep each number below 256.
 fn head_bytes(fields: &Fields<'_>) -> [u8; 13]
     requires { Passes 87 (value_fields (given fields.now)) }
     ensures { result ≡ take 13 (frame (given fields.now)) }
@@ -66,37 +66,16 @@ fn head_bytes(fields: &Fields<'_>) -> [u8; 13]
     ]
 }
 
-// Fills the part with the head and the rest.
-fn join(part: &mut [u8], head: &[u8], rest: &[u8])
-    requires { length part.old ≡ length head.now + length rest.now }
-    ensures { part.new ≡ head.now ++ rest.now }
-{
-    let middle = head.len();
-    part[..middle].copy_from_slice(head);
-    part[middle..].copy_from_slice(rest);
-}
-
-// Fills the part with the head and a content, whose bytes there are as it has few rows.
-fn join_content(part: &mut [u8], head: &[u8], content: ContentFields<'_>)
-    requires few_reads { length content.reads.now ≤ 4 }
-    requires few_writes { length content.writes.now ≤ 4 }
-    requires whole { length part.old ≡ length head.now + (6 + 9 * length content.reads.now + 8 * length content.writes.now) }
-    ensures { part.new ≡ head.now ++ part_bytes (part_given (Some content.entry)) }
-{
-    let bytes = content_bytes(content.second, content.reads, content.writes).unwrap();
-    join(part, head, bytes.as_slice());
-}
-
 // Fills a part of just the frame's length.
 fn fill(part: &mut [u8], fields: &Fields<'_>)
     requires lawful { Passes 87 (value_fields (given fields.now)) }
     requires whole { length part.old ≡ size (part_given fields.now.content) }
     ensures { part.new ≡ frame (given fields.now) }
 {
-    let head = head_bytes(fields);
-    match fields.content {
-        Some(content) => join_content(part, &head, content),
-        None => part.copy_from_slice(&head),
+    part[..13].copy_from_slice(&head_bytes(fields));
+    if let Some(content) = fields.content {
+        let bytes = content_bytes(content.second, content.reads, content.writes).unwrap();
+        part[13..].copy_from_slice(bytes.as_slice());
     }
 }
 

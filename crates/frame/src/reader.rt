@@ -3,8 +3,7 @@
 ghost use Rattle.std.specs.Prelude.{◌≡◌, ◌+◌, ◌*◌, ◌≤◌, ◌++◌, length, drop, Some, slice_index};
 ghost use Rattle.field.specs.Layouts.{Checked, Checking};
 ghost use Rattle.layout.specs.Values.{flag, size};
-ghost use Rattle.layout.specs.Numbers.{reading, writing, rows_in};
-ghost use Rattle.layout.specs.Format.{header_fields, content_fields, part_fields};
+ghost use Rattle.layout.specs.Format.{header_fields, part_fields};
 ghost use Rattle.layout.specs.Frames.{header_in, content_in, part_in, mark_fields, ending};
 ghost use Rattle.frame.specs.Messages.{value, content_of, Ruled, PartsIn, PartsOf, Reads, Yields, OneFrame, parts};
 
