@@ -1,15 +1,15 @@
 // Writing the frame of bare fields.
 
-ghost use Rattle.std.specs.Prelude.{◌≡◌, ◌+◌, ◌*◌, ◌≤◌, ◌++◌, length, take, Some, nat_le};
+ghost use Rattle.std.specs.Prelude.{◌≡◌, ◌+◌, length, take, nat_le};
 ghost use Rattle.field.specs.Layouts.{Passes, Checked};
-ghost use Rattle.layout.specs.Values.{given, part_given, size};
+ghost use Rattle.layout.specs.Values.{given};
 ghost use Rattle.layout.specs.Format.{value_fields};
-ghost use Rattle.layout.specs.Frames.{part_bytes, frame};
+ghost use Rattle.layout.specs.Frames.{frame};
 ghost use Rattle.encode.specs.Writes.{Writes};
 
 use field::check;
 use layout::bytes::content_bytes;
-use layout::fields::{ContentFields, Fields};
+use layout::fields::Fields;
 use layout::format::header_fields;
 use layout::row::check_content;
 use values::refusal::Refusal;
@@ -35,7 +35,7 @@ fn check_fields(fields: &Fields<'_>) -> Result<(), Refusal>
 // The length of the frame of fields that obey their rules.
 fn frame_length(fields: &Fields<'_>) -> usize
     requires { Passes 87 (value_fields (given fields.now)) }
-    ensures { result ≡ size (part_given fields.now.content) }
+    ensures { result ≡ length (frame (given fields.now)) }
 {
     match fields.content {
         Some(content) => 19 + 9 * content.reads.len() + 8 * content.writes.len(),
@@ -69,7 +69,7 @@ fn head_bytes(fields: &Fields<'_>) -> [u8; 13]
 // Fills a part of just the frame's length.
 fn fill(part: &mut [u8], fields: &Fields<'_>)
     requires lawful { Passes 87 (value_fields (given fields.now)) }
-    requires whole { length part.old ≡ size (part_given fields.now.content) }
+    requires whole { length part.old ≡ length (frame (given fields.now)) }
     ensures { part.new ≡ frame (given fields.now) }
 {
     part[..13].copy_from_slice(&head_bytes(fields));

@@ -1,25 +1,21 @@
-use Rattle.std.proofs.Common.{◌≡◌, length, sym, refl, ◌∙◌, inr, arith}
+use Rattle.std.proofs.Common.{refl, inr, arith}
 use borrow.Author.Tests.{true-leb, false-leb}
 use Rattle.layout.specs.Values.{given}
 use Rattle.layout.specs.Frames.{frame}
-use Rattle.layout.proofs.Back.{frame_length}
 use Rattle.encode.proofs.Lent.{filled}
 use Rattle.encode.proofs.writer.write_fields.Goals as goal
 
 pub returns-then-not-has_room : goal.returns-then-not-has_room
 returns-then-not-has_room c =
-    let v = given c.args.fields.now in
-    let n : c.frame_length-n.result ≡ length (frame v) = c.frame_length-n.ensures ∙ sym (frame_length v v.content) in
+    let n = c.frame_length-n.ensures in
     let short = false-leb _ _ c.if-not-has_room.ensures in
     (refl, inr (record { lawful = c.in_ok-check_fields.ensures; refusal = refl; room = omega arith }))
 
 pub returns : goal.returns
 returns c =
-    let v = given c.args.fields.now in
-    let n : c.frame_length-n.result ≡ length (frame v) = c.frame_length-n.ensures ∙ sym (frame_length v v.content) in
     record {
       lawful = c.in_ok-check_fields.ensures;
-      long = n;
+      long = c.frame_length-n.ensures;
       room = true-leb _ _ c.if-not-has_room.ensures;
-      bytes = filled c.args.buf.now (frame v) c.fill.new.part c.args.at c.frame_length-n.result c.fill.ensures;
+      bytes = filled c.args.buf.now (frame (given c.args.fields.now)) c.fill.new.part c.args.at c.frame_length-n.result c.fill.ensures;
     }
