@@ -133,24 +133,37 @@ taken_new (Some x ∷ xs) zero k v l e = cc
 taken_new (None ∷ xs) (suc p) k v l e = taken_new xs p k v (omega arith) e
 taken_new (Some x ∷ xs) (suc p) k v l e = ap (λ n. n + 1) (taken_new xs p k v (omega arith) e)
 
--- the search passes only places that other keys have
-past : (xs : List Slot) (k n s : ℕ) → s < 128
-    → (d : ℕ) × (d ≤ n) × (seek xs k n s ≡ (s + d) % 128) × ((e : ℕ) → e < d → stops (at xs ((s + e) % 128)) k ≡ false) × ((d < n) → stops (at xs (seek xs k n s)) k ≡ true)
-past xs k zero s l = (0, omega arith, seek_end xs k s ∙ omega arith, λ e m. absurd (omega arith), λ m. absurd (omega arith))
-past xs k (suc n) s l = go (past xs k n ((s + 1) % 128) (omega arith)) (cases_Bool (stops (at xs s) k))
+-- The search for k goes from s past `steps` places that other keys have, n at most, and if fewer then to one where it stops.
+record Way (xs : List Slot) (k n s p : ℕ) : Type 0 where
+  steps : ℕ
+  few : steps ≤ n
+  place : p ≡ (s + steps) % 128
+  before : (e : ℕ) → e < steps → stops (at xs ((s + e) % 128)) k ≡ false
+  ends : steps < n → stops (at xs p) k ≡ true
+
+way : (xs : List Slot) (k n s : ℕ) → s < 128 → Way xs k n s (seek xs k n s)
+way xs k zero s l = record { steps = 0; few = omega arith; place = seek_end xs k s ∙ omega arith; before = λ e m. absurd (omega arith); ends = λ m. absurd (omega arith) }
+way xs k (suc n) s l = go (way xs k n ((s + 1) % 128) (omega arith)) (cases_Bool (stops (at xs s) k))
   where
-    go : (d : ℕ) × (d ≤ n) × (seek xs k n ((s + 1) % 128) ≡ ((s + 1) % 128 + d) % 128) × ((e : ℕ) → e < d → stops (at xs (((s + 1) % 128 + e) % 128)) k ≡ false) × ((d < n) → stops (at xs (seek xs k n ((s + 1) % 128))) k ≡ true)
-        → (stops (at xs s) k ≡ true) ⊎ (stops (at xs s) k ≡ false)
-        → (d : ℕ) × (d ≤ suc n) × (seek xs k (suc n) s ≡ (s + d) % 128) × ((e : ℕ) → e < d → stops (at xs ((s + e) % 128)) k ≡ false) × ((d < suc n) → stops (at xs (seek xs k (suc n) s)) k ≡ true)
-    go more (inl t) = (0, omega arith, seek_stop xs k n s t ∙ omega arith, λ e m. absurd (omega arith), λ m. rw (seek_stop xs k n s t) t)
-    go (d, few, place, before, ends) (inr f) =
-        (d + 1, omega arith, seek_go xs k n s f ∙ place ∙ omega arith, λ e m. each e m (cases_eq e 0), λ m. rw (seek_go xs k n s f) (ends (omega arith)))
+    go : Way xs k n ((s + 1) % 128) (seek xs k n ((s + 1) % 128)) → (stops (at xs s) k ≡ true) ⊎ (stops (at xs s) k ≡ false) → Way xs k (suc n) s (seek xs k (suc n) s)
+    go w (inl t) = record {
+      steps = 0;
+      few = omega arith;
+      place = seek_stop xs k n s t ∙ omega arith;
+      before = λ e m. absurd (omega arith);
+      ends = λ m. rw (seek_stop xs k n s t) t;
+    }
+    go w (inr f) = record {
+      steps = w.steps + 1;
+      few = omega (arith, w.few);
+      place = seek_go xs k n s f ∙ w.place ∙ omega arith;
+      before = λ e m. each e m (cases_eq e 0);
+      ends = λ m. rw (seek_go xs k n s f) (w.ends (omega arith));
+    }
       where
-        each : (e : ℕ) → e < d + 1 → (e ≡ 0) ⊎ (e ≢ 0) → stops (at xs ((s + e) % 128)) k ≡ false
+        each : (e : ℕ) → e < w.steps + 1 → (e ≡ 0) ⊎ (e ≢ 0) → stops (at xs ((s + e) % 128)) k ≡ false
         each e m (inl z) = let q : (s + e) % 128 ≡ s = omega arith in rw q f
-        each e m (inr z) =
-            let q : (s + e) % 128 ≡ ((s + 1) % 128 + (e - 1)) % 128 = omega arith in
-            rw q (before (e - 1) (omega arith))
+        each e m (inr z) = let q : (s + e) % 128 ≡ ((s + 1) % 128 + (e - 1)) % 128 = omega arith in rw q (w.before (e - 1) (omega arith))
 
 -- n places that other keys have are taken
 all_taken : (xs : List Slot) (k n : ℕ) → ((i : ℕ) → i < n → stops (at xs i) k ≡ false) → n ≤ taken xs
@@ -169,29 +182,27 @@ other_key (Some x) k h = (refl, h)
 
 -- while a place is empty, the search ends at the key or at the first empty place
 pub searched : (xs : List Slot) (k : ℕ) → taken xs < 128 → Search xs k (place_of xs k)
-searched xs k l = go (past xs k 128 (home_of k) (omega arith))
-  where
-    go : (d : ℕ) × (d ≤ 128) × (place_of xs k ≡ (home_of k + d) % 128) × ((e : ℕ) → e < d → stops (at xs ((home_of k + e) % 128)) k ≡ false) × ((d < 128) → stops (at xs (place_of xs k)) k ≡ true)
-        → Search xs k (place_of xs k)
-    go (d, few, place, before, ends) = record {
-      steps = d;
+searched xs k l =
+    let less = fewer (cases_lt w.steps 128) in
+    record {
+      steps = w.steps;
       few = less;
-      place = place;
-      ends = free_slot (at xs (place_of xs k)) k (ends less);
-      past = λ e m. other_key (at xs ((home_of k + e) % 128)) k (before e m);
+      place = w.place;
+      ends = free_slot (at xs (place_of xs k)) k (w.ends less);
+      past = λ e m. other_key (at xs ((home_of k + e) % 128)) k (w.before e m);
     }
-      where
-        every : 128 ≤ d → (i : ℕ) → i < 128 → stops (at xs i) k ≡ false
-        every f i m =
-            let e : (home_of k + (i + 128 - home_of k) % 128) % 128 ≡ i = omega arith in
-            subst (λ (x : ℕ). stops (at xs x) k ≡ false) e (before ((i + 128 - home_of k) % 128) (omega arith))
+  where
+    w : Way xs k 128 (home_of k) (place_of xs k)
+    w = way xs k 128 (home_of k) (omega arith)
 
-        less : d < 128
-        less = pick (cases_lt d 128)
-          where
-            pick : (d < 128) ⊎ (128 ≤ d) → d < 128
-            pick (inl m) = m
-            pick (inr m) = let n = all_taken xs k 128 (every m) in absurd (omega arith)
+    every : 128 ≤ w.steps → (i : ℕ) → i < 128 → stops (at xs i) k ≡ false
+    every f i m =
+        let e : (home_of k + (i + 128 - home_of k) % 128) % 128 ≡ i = omega arith in
+        subst (λ (x : ℕ). stops (at xs x) k ≡ false) e (w.before ((i + 128 - home_of k) % 128) (omega arith))
+
+    fewer : (w.steps < 128) ⊎ (128 ≤ w.steps) → w.steps < 128
+    fewer (inl m) = m
+    fewer (inr m) = let n = all_taken xs k 128 (every m) in absurd (omega arith)
 
 pub place_stops : (xs : List Slot) (k : ℕ) → taken xs < 128 → stops (at xs (place_of xs k)) k ≡ true
 place_stops xs k l = go (at xs (place_of xs k)) (searched xs k l).ends
