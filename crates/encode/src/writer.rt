@@ -1,10 +1,11 @@
 // Writing the frame of bare fields.
 
 ghost use Rattle.std.specs.Prelude.{◌≡◌, ◌+◌, length, take, nat_le};
-ghost use Rattle.field.specs.Layouts.{Passes, Checked};
+ghost use Rattle.field.specs.Layouts.{Passes, Checked, Checking};
 ghost use Rattle.layout.specs.Values.{given};
 ghost use Rattle.layout.specs.Format.{value_fields};
 ghost use Rattle.layout.specs.Frames.{frame};
+ghost use Rattle.encode.specs.Once.{passes_once};
 ghost use Rattle.encode.specs.Writes.{Writes};
 
 use field::check;
@@ -17,6 +18,13 @@ use values::timestamp::Timestamp;
 
 // The length of the longest frame.
 const LONGEST: usize = 87;
+
+// Fields that obey their rules, so that there is a frame of them.
+#[derive(Clone, Copy)]
+struct LawfulFields<'a> {
+    fields: Fields<'a>,
+    ghost lawful: { Passes 87 (value_fields (given fields)) } by { passes_once 87 (value_fields (given fields)) },
+}
 
 // Checks every number in the order of the frame.
 fn check_fields(fields: &Fields<'_>) -> Result<(), Refusal>
@@ -32,50 +40,56 @@ fn check_fields(fields: &Fields<'_>) -> Result<(), Refusal>
     }
 }
 
-// The length of the frame of fields that obey their rules.
-fn frame_length(fields: &Fields<'_>) -> usize
-    requires { Passes 87 (value_fields (given fields.now)) }
-    ensures { result ≡ length (frame (given fields.now)) }
-{
-    match fields.content {
-        Some(content) => 19 + 9 * content.reads.len() + 8 * content.writes.len(),
-        None => 13,
+impl<'a> LawfulFields<'a> {
+    fn new(fields: Fields<'a>) -> Result<LawfulFields<'a>, Refusal>
+        ensures { Checking 87 (value_fields (given fields.entry)) (λ l. l.fields ≡ fields.entry) result }
+    {
+        check_fields(&fields)?;
+        Ok(LawfulFields { fields })
     }
-}
 
-// The bytes before the content; the rules keep each number below 256.
-fn head_bytes(fields: &Fields<'_>) -> [u8; 13]
-    requires { Passes 87 (value_fields (given fields.now)) }
-    ensures { result ≡ take 13 (frame (given fields.now)) }
-{
-    let header = &fields.header;
-    [
-        0x54,
-        0x4B,
-        0x41,
-        0,
-        1,
-        header.kind as u8,
-        header.transaction as u8,
-        header.sender as u8,
-        header.view as u8,
-        header.code as u8,
-        header.accepted as u8,
-        header.accepted_view as u8,
-        fields.flag() as u8,
-    ]
-}
+    // The length of the frame.
+    fn length(&self) -> usize
+        ensures { result ≡ length (frame (given self.now.fields)) }
+    {
+        match self.fields.content {
+            Some(content) => 19 + 9 * content.reads.len() + 8 * content.writes.len(),
+            None => 13,
+        }
+    }
 
-// Fills a part of just the frame's length.
-fn fill(part: &mut [u8], fields: &Fields<'_>)
-    requires lawful { Passes 87 (value_fields (given fields.now)) }
-    requires whole { length part.old ≡ length (frame (given fields.now)) }
-    ensures { part.new ≡ frame (given fields.now) }
-{
-    part[..13].copy_from_slice(&head_bytes(fields));
-    if let Some(content) = fields.content {
-        let bytes = content_bytes(content.second, content.reads, content.writes).unwrap();
-        part[13..].copy_from_slice(bytes.as_slice());
+    // The bytes before the content; the rules keep each number below 256.
+    fn head(&self) -> [u8; 13]
+        ensures { result ≡ take 13 (frame (given self.now.fields)) }
+    {
+        let header = &self.fields.header;
+        [
+            0x54,
+            0x4B,
+            0x41,
+            0,
+            1,
+            header.kind as u8,
+            header.transaction as u8,
+            header.sender as u8,
+            header.view as u8,
+            header.code as u8,
+            header.accepted as u8,
+            header.accepted_view as u8,
+            self.fields.flag() as u8,
+        ]
+    }
+
+    // Fills a part of just the frame's length.
+    fn fill(&self, part: &mut [u8])
+        requires { length part.old ≡ length (frame (given self.now.fields)) }
+        ensures { part.new ≡ frame (given self.now.fields) }
+    {
+        part[..13].copy_from_slice(&self.head());
+        if let Some(content) = self.fields.content {
+            let bytes = content_bytes(content.second, content.reads, content.writes).unwrap();
+            part[13..].copy_from_slice(bytes.as_slice());
+        }
     }
 }
 
@@ -90,11 +104,11 @@ fn has_room(length: usize, at: usize, n: usize) -> bool
 pub fn write_fields(buf: &mut [u8], at: usize, fields: &Fields<'_>) -> Result<usize, Refusal>
     ensures { Writes (given fields.now) at buf.old result buf.new }
 {
-    check_fields(fields)?;
-    let n = frame_length(fields);
+    let lawful = LawfulFields::new(*fields)?;
+    let n = lawful.length();
     if !has_room(buf.len(), at, n) {
         return Err(Refusal::ShortBuffer);
     }
-    fill(&mut buf[at..at + n], fields);
+    lawful.fill(&mut buf[at..at + n]);
     Ok(n)
 }
