@@ -1,5 +1,6 @@
 -- The fields of a frame in their order, each with the rule of its number given the ones before it.
-use Rattle.std.specs.Prelude.{ℕ, ◌+◌, ◌*◌, Bool, true, cond, ◌&&◌, ◌||◌, List, [], ◌∷◌, ◌++◌, length, Some, None, Option, is_some, unwrap_or, ◌==◌, nat_le, slice_index_or}
+use Rattle.std.specs.Prelude.{ℕ, ◌+◌, ◌*◌, Bool, true, not, cond, ◌&&◌, ◌||◌, List, [], ◌∷◌, ◌++◌, length, Some, None, Option, is_some, unwrap_or, ◌==◌, nat_le, slice_index_or}
+use Rattle.std.specs.List.{list_any}
 use Rattle.values.specs.declared.timestamp.Timestamp.{Timestamp}
 use Rattle.values.specs.Times.{timestamp}
 use Rattle.content.specs.declared.rows.Read.{Read}
@@ -69,6 +70,13 @@ abbrev pub row_fields : {X : Type 0} → Layout X → Timestamp → ℕ → List
 row_fields l t base xs i =
     record { place = base + width l * i; width = 4; good = key_new l xs i }
     ∷ record { place = base + width l * i + 4; width = l.rest; good = l.lawful t (slice_index_or xs i l.blank) }
+    ∷ []
+
+-- the fields of a row behind the earlier ones, of which the first begins at base
+abbrev pub next_fields : {X : Type 0} → Layout X → Timestamp → ℕ → List X → X → List Field
+next_fields l t base earlier x =
+    record { place = base + width l * length earlier; width = 4; good = not (list_any (λ e. l.key e == l.key x) earlier) }
+    ∷ record { place = base + width l * length earlier + 4; width = l.rest; good = l.lawful t x }
     ∷ []
 
 abbrev pub table_fields : {X : Type 0} → Layout X → Timestamp → ℕ → List X → List Field

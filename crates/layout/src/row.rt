@@ -1,10 +1,9 @@
 // Reads and writes as the rows of a frame: what they share is written once.
 
 ghost use Rattle.std.specs.Prelude.{◌≡◌, ℕ, ◌+◌, ◌*◌, ◌<◌, ◌≤◌, min, List, length, take, drop, slice_index, refl};
-ghost use Rattle.content.specs.Rules.{unlike};
 ghost use Rattle.field.specs.Layouts.{Checked};
 ghost use Rattle.layout.specs.Numbers.{number, Layout, width, reading, writing, rows_in};
-ghost use Rattle.layout.specs.Format.{key_new, row_fields, table_fields, content_fields};
+ghost use Rattle.layout.specs.Format.{next_fields, table_fields, content_fields};
 
 use crate::format::count_fields;
 use bounded::Bounded;
@@ -18,7 +17,7 @@ use values::timestamp::Timestamp;
 pub fn byte_at(bytes: &[u8], place: usize) -> u8
     ensures { result ≡ slice_index bytes.now place }
 {
-    if place < bytes.len() { bytes[place] } else { 0 }
+    bytes.get(place).copied().unwrap_or(0)
 }
 
 // The number in the four bytes from the place on, of which those past the end count as 0.
@@ -38,11 +37,7 @@ pub fn number_at(bytes: &[u8], place: u8) -> u32
 pub fn tail_at(bytes: &[u8], place: usize) -> &[u8]
     ensures { result.now ≡ drop place bytes.now }
 {
-    if place <= bytes.len() {
-        &bytes[place..]
-    } else {
-        &[]
-    }
+    bytes.get(place..).unwrap_or(&[])
 }
 
 // A row: a key, and a second field with a rule of its own.
@@ -149,32 +144,23 @@ pub fn rows_in<T: Row>(bytes: &[u8], count: usize) -> Bounded<T, 4>
     rows
 }
 
-// The key of the i-th row is none of the earlier ones.
-fn key_is_new<T: Row>(rows: &[T], i: usize) -> bool
-    requires { i < length rows.now }
-    ensures { result ≡ key_new T.Row.layout rows.now i }
-{
-    !has_key(&rows[..i], rows[i].key())
-}
-
-// The fields of the i-th of the rows that begin at base.
-fn row_fields<T: Row>(rows: &[T], i: usize, base: usize, timestamp: Timestamp) -> [Field; 2]
-    requires inside { i < length rows.now }
-    requires few { i < 4 }
+// The fields of a row behind the earlier ones, of which the first begins at base.
+fn row_fields<T: Row>(earlier: &[T], row: &T, base: usize, timestamp: Timestamp) -> [Field; 2]
+    requires few { length earlier.now < 4 }
     requires near { base ≤ 55 }
-    ensures { result ≡ row_fields T.Row.layout timestamp base rows.now i }
+    ensures { result ≡ next_fields T.Row.layout timestamp base earlier.now row.now }
 {
-    let place = base + (4 + T::rest()) * i;
+    let place = base + (4 + T::rest()) * earlier.len();
     [
         Field {
             place,
             width: 4,
-            good: key_is_new(rows, i),
+            good: !has_key(earlier, row.key()),
         },
         Field {
             place: place + 4,
             width: T::rest(),
-            good: rows[i].is_lawful(timestamp),
+            good: row.is_lawful(timestamp),
         },
     ]
 }
@@ -190,8 +176,8 @@ fn check_rows<T: Row>(
     requires near { base ≤ 55 }
     ensures { Checked size (table_fields T.Row.layout timestamp base rows.now) result }
 {
-    for (i, _) in rows.iter().enumerate() {
-        check(&row_fields(rows, i, base, timestamp), size)?;
+    for (i, row) in rows.iter().enumerate() {
+        check(&row_fields(&rows[..i], row, base, timestamp), size)?;
     }
     Ok(())
 }

@@ -1,4 +1,4 @@
-use Rattle.std.proofs.Common.{◌<◌, length, ap, ◌∙◌, arith}
+use Rattle.std.proofs.Common.{◌≡◌, rules, ◌<◌, length, ap, ◌∙◌, arith}
 use Rattle.bounded.proofs.Room.{pushed}
 use Rattle.layout.proofs.Rows.{length_rows}
 use Rattle.layout.proofs.Tables.{row_next, row_passed}
@@ -9,7 +9,8 @@ loop-preserved g c =
     let l = g.T.Row.layout in
     let i = c.loop.counter in
     let n = ap length c.loop.invariant.0 ∙ length_rows l i c.args.bytes.now in
+    let read : c.read.result ≡ l.row c.loop.rest.now = search rules in
     let few : length c.loop.rows < 4 = omega arith in (
-      pushed 4 c.read.result c.loop.rows c.push.new.self c.push.result few c.push.ensures ∙ row_next l i c.args.bytes.now c.loop.rest.now c.read.result c.loop.rows c.loop.invariant.0 c.loop.invariant.1 c.read.ensures,
+      pushed 4 c.read.result c.loop.rows c.push.new.self c.push.result few c.push.ensures ∙ row_next l i c.args.bytes.now c.loop.rest.now c.read.result c.loop.rows c.loop.invariant.0 c.loop.invariant.1 read,
       row_passed l i c.rest.result c.args.bytes.now c.loop.rest.now c.tail_at-rest.result.now c.rest.ensures.is c.loop.invariant.1 c.tail_at-rest.ensures,
     )
