@@ -1,6 +1,7 @@
 // Reads and writes as the rows of a frame: what they share is written once.
 
 ghost use Rattle.std.specs.Prelude.{◌≡◌, ℕ, ◌+◌, ◌*◌, ◌<◌, ◌≤◌, min, List, length, take, drop, slice_index, refl};
+ghost use Rattle.std.proofs.Common.{arith};
 ghost use Rattle.field.specs.Layouts.{Checked};
 ghost use Rattle.layout.specs.Numbers.{number, Layout, width, reading, writing, rows_in};
 ghost use Rattle.layout.specs.Format.{next_fields, table_fields, content_fields};
@@ -44,10 +45,10 @@ pub fn tail_at(bytes: &[u8], place: usize) -> &[u8]
 pub trait Row: Keyed {
     ghost layout: { Layout Self };
 
+    ghost REST: { ℕ };
+
     // The bytes of the second field.
-    fn rest() -> usize
-        ensures is { result ≡ layout.rest }
-        ensures few { result ≤ 5 };
+    const REST: usize;
 
     // The row at the front of the bytes.
     fn read(bytes: &[u8]) -> Self
@@ -62,6 +63,10 @@ pub trait Row: Keyed {
 
     ghost long: { (x : Self) → length (layout.bytes x) ≡ width layout };
 
+    ghost rest: { REST ≡ layout.rest };
+
+    ghost few: { REST ≤ 5 };
+
     // The layout's key and blank are those of the type.
     ghost keyed: { (x : Self) → Self.Keyed.key x ≡ layout.key x };
 
@@ -71,15 +76,19 @@ pub trait Row: Keyed {
 impl Row for Read {
     ghost layout = { reading };
 
+    ghost REST = { 5 };
+
+    const REST: usize = 5;
+
+    ghost rest = { refl };
+
+    ghost few = { Prim.omega arith };
+
     ghost long = { λ _. refl };
 
     ghost keyed = { λ _. refl };
 
     ghost blanks = { refl };
-
-    fn rest() -> usize {
-        5
-    }
 
     fn read(bytes: &[u8]) -> Self {
         Read {
@@ -103,15 +112,19 @@ impl Row for Read {
 impl Row for Write {
     ghost layout = { writing };
 
+    ghost REST = { 4 };
+
+    const REST: usize = 4;
+
+    ghost rest = { refl };
+
+    ghost few = { Prim.omega arith };
+
     ghost long = { λ _. refl };
 
     ghost keyed = { λ _. refl };
 
     ghost blanks = { refl };
-
-    fn rest() -> usize {
-        4
-    }
 
     fn read(bytes: &[u8]) -> Self {
         Write {
@@ -139,7 +152,7 @@ pub fn rows_in<T: Row>(bytes: &[u8], count: usize) -> Bounded<T, 4>
     let mut rest = bytes;
     for _ in 0..count.min(4) {
         let _ = rows.push(T::read(rest));
-        rest = tail_at(rest, 4 + T::rest());
+        rest = tail_at(rest, 4 + T::REST);
     }
     rows
 }
@@ -150,7 +163,7 @@ fn row_fields<T: Row>(earlier: &[T], row: &T, base: usize, timestamp: Timestamp)
     requires near { base ≤ 55 }
     ensures { result ≡ next_fields T.Row.layout timestamp base earlier.now row.now }
 {
-    let place = base + (4 + T::rest()) * earlier.len();
+    let place = base + (4 + T::REST) * earlier.len();
     [
         Field {
             place,
@@ -159,7 +172,7 @@ fn row_fields<T: Row>(earlier: &[T], row: &T, base: usize, timestamp: Timestamp)
         },
         Field {
             place: place + 4,
-            width: T::rest(),
+            width: T::REST,
             good: row.is_lawful(timestamp),
         },
     ]

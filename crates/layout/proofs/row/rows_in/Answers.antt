@@ -12,5 +12,5 @@ loop-preserved g c =
     let read : c.read.result ≡ l.row c.loop.rest.now = search rules in
     let few : length c.loop.rows < 4 = omega arith in (
       pushed 4 c.read.result c.loop.rows c.push.new.self c.push.result few c.push.ensures ∙ row_next l i c.args.bytes.now c.loop.rest.now c.read.result c.loop.rows c.loop.invariant.0 c.loop.invariant.1 read,
-      row_passed l i c.rest.result c.args.bytes.now c.loop.rest.now c.tail_at-rest.result.now c.rest.ensures.is c.loop.invariant.1 c.tail_at-rest.ensures,
+      row_passed l i c.REST.result c.args.bytes.now c.loop.rest.now c.tail_at-rest.result.now (c.REST.ensures ∙ g.met.T.Row.rest) c.loop.invariant.1 c.tail_at-rest.ensures,
     )
