@@ -5,17 +5,13 @@ ghost use Rattle.encode.specs.Writes.{Writes};
 
 use crate::writer::write_fields;
 use frame::message::Message;
-use layout::fields::Fields;
+use frame::rows::PlainMessage;
 use values::refusal::Refusal;
 
 // Writes the frame of the message from the place on, and answers its length.
 pub fn write_message(buf: &mut [u8], at: usize, message: &Message<'_>) -> Result<usize, Refusal>
     ensures { Writes (value message.now) at buf.old result buf.new }
 {
-    let rows = message.parts().map(|parts| parts.rows());
-    let fields = Fields {
-        header: message.header(),
-        content: rows.as_ref().map(|rows| rows.fields()),
-    };
-    write_fields(buf, at, &fields)
+    let plain = PlainMessage::from(message);
+    write_fields(buf, at, &plain.fields())
 }
