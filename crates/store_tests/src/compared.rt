@@ -44,7 +44,7 @@ pub struct Compared<S> {
 
 impl<S: Store> Compared<S> {
     // Both empty, the store as `new` makes it.
-    pub fn new<F: FnOnce(usize) -> Result<S, Refusal>>(
+    pub(crate) fn new<F: FnOnce(usize) -> Result<S, Refusal>>(
         alloc: Global,
         capacity: usize,
         new: F,
