@@ -69,7 +69,7 @@ fn run<S: Store + Drop, K: Fn(u32) -> u32>(
 }
 
 // The run on a store of each kind, and on either.
-pub fn all_run<K: Fn(u32) -> u32 + Drop>(
+pub(crate) fn all_run<K: Fn(u32) -> u32 + Drop>(
     rt: &impl Abort,
     alloc: Global,
     capacity: usize,
