@@ -1,3 +1,4 @@
 pub mod Rules
 pub mod Contents
 pub mod Storing
+pub mod Words

@@ -1,6 +1,8 @@
-ghost use Rattle.std.specs.Prelude.{◌≡◌};
+ghost use Rattle.std.specs.Prelude.{◌≡◌, Some};
 ghost use Rattle.content.specs.Rules.{readable};
+ghost use Rattle.content.specs.Words.{read_words, write_words};
 
+use std::fmt;
 use values::timestamp::Timestamp;
 
 // What a transaction read: the key, and the version that it saw there.
@@ -23,5 +25,21 @@ impl Read {
         ensures { result ≡ readable timestamp self.now }
     {
         self.version.is_version() && self.version.is_before(timestamp)
+    }
+}
+
+impl fmt::Display for Read {
+    ghost output = { λ read. Some (read_words read) };
+
+    fn fmt<W: fmt::Write>(&self, f: &mut fmt::Formatter<W>) -> fmt::Result {
+        write!(f, "{}@{}", self.key, self.version)
+    }
+}
+
+impl fmt::Display for Write {
+    ghost output = { λ write. Some (write_words write) };
+
+    fn fmt<W: fmt::Write>(&self, f: &mut fmt::Formatter<W>) -> fmt::Result {
+        write!(f, "{}={}", self.key, self.value)
     }
 }
