@@ -1,12 +1,27 @@
-use Rattle.std.specs.Prelude.{◌≡◌, ℕ, Bool, true, false, List, length, Some, None, codes}
+use Rattle.std.specs.Prelude.{◌≡◌, ℕ, Bool, true, false, List, length, Some, None, Ok, Err, codes, Option, Result}
 use Rattle.values.specs.declared.refusal.Refusal.{Refusal}
 use Rattle.field.specs.Layouts.{Breaks}
+use Rattle.frame.specs.Messages.{value}
+use Rattle.frame.specs.declared.message.Message.{Message}
 use Rattle.layout.specs.Frames.{frame, Lawful, byte_fields}
 use Rattle.layout.specs.Values.{Value}
 use Rattle.inspection.specs.Counting.{counted}
 use Rattle.inspection.specs.Spelling.{unhex}
 use Rattle.wording.specs.Wording.{text, refusal_text}
+use Rattle.inspection.specs.declared.line.Fault.{Fault}
+use Rattle.inspection.specs.declared.line.Fault.TheVariants.{NotHex, Refused}
 use Rattle.inspection.specs.declared.tally.Tally.{Tally}
+
+-- why a line is refused
+abbrev pub fault_words : Fault → List ℕ
+fault_words NotHex = codes "not hex"
+fault_words (Refused e) = refusal_text e
+
+-- the message whose frame a line's bytes are, or why there is none
+abbrev pub Understood : Option (List ℕ) → Result Message Fault → Type 0
+Understood o (Ok m) = (o ≡ Some (frame (value m))) × Lawful (value m)
+Understood o (Err NotHex) = o ≡ None
+Understood o (Err (Refused e)) = (b : List ℕ) × ((o ≡ Some b) × Breaks (length b) (byte_fields b) e)
 
 -- these words are said of a line, and it is refused or not
 pub data Says (line words : List ℕ) (refused : Bool) : Type 0 where

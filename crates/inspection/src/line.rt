@@ -1,30 +1,48 @@
-ghost use Rattle.std.specs.Prelude.{◌≡◌, IfOk, string_bytes, MatchResult};
-ghost use Rattle.inspection.specs.Saying.{Says, Told, OneAnswer};
+ghost use Rattle.std.specs.Prelude.{◌≡◌, string_bytes, MatchResult, Some};
+ghost use Rattle.std.specs.Option.{option_copied};
+ghost use Rattle.inspection.specs.Saying.{fault_words, Understood, Told, OneAnswer};
+ghost use Rattle.inspection.specs.declared.line.Fault.TheVariants.{Refused};
 
 use crate::hex::from_hex;
 use crate::tally::Tally;
+use frame::message::Message;
 use frame::reader::read_frame;
 use std::alloc::{AllocError, Global};
-use wording::text::{message_text, refused_text};
+use std::fmt;
+use values::refusal::Refusal;
+use wording::text::Line;
 
-// What is said of a line, and whether the line is refused.
-fn verdict(heap: Global, line: &[u8]) -> Result<(String, bool), AllocError>
-    ensures { IfOk result (λ p. Says line.now (string_bytes p.0) p.1) }
-{
-    let Some(bytes) = from_hex(heap, line)? else {
-        let text = String::from_str(heap, "not hex")?;
-        return Ok((text, true));
-    };
-    match read_frame(bytes.as_slice()) {
-        Ok(message) => {
-            let text = message_text(heap, &message)?;
-            Ok((text, false))
-        }
-        Err(refusal) => {
-            let text = refused_text(heap, refusal)?;
-            Ok((text, true))
+// Why a line is refused.
+#[derive(Clone, Copy, Debug, PartialEq, Eq)]
+enum Fault {
+    NotHex,
+    Refused(Refusal),
+}
+
+impl From<Refusal> for Fault {
+    ghost from_gives = { λ refusal fault. fault ≡ Refused refusal };
+
+    fn from(refusal: Refusal) -> Fault {
+        Fault::Refused(refusal)
+    }
+}
+
+impl fmt::Display for Fault {
+    ghost output = { λ fault. Some (fault_words fault) };
+
+    fn fmt<W: fmt::Write>(&self, f: &mut fmt::Formatter<W>) -> fmt::Result {
+        match self {
+            Fault::NotHex => write!(f, "not hex"),
+            Fault::Refused(refusal) => write!(f, "{}", Line(*refusal)),
         }
     }
+}
+
+// The message whose frame a line's bytes are.
+fn message_in(bytes: Option<&[u8]>) -> Result<Message<'_>, Fault>
+    ensures { Understood (option_copied bytes.entry) result }
+{
+    Ok(read_frame(bytes.ok_or(Fault::NotHex)?)?)
 }
 
 // What is said of one line of hex, which the tally counts; for want of memory it does not.
@@ -32,7 +50,12 @@ pub fn line_text(heap: Global, line: &[u8], tally: &mut Tally) -> Result<String,
     ensures told { MatchResult result (λ s. Told line.now (string_bytes s) tally.old tally.new) (λ _. tally.new ≡ tally.old) }
     ensures law { OneAnswer }
 {
-    let (text, refused) = verdict(heap, line)?;
-    tally.count(refused);
+    let bytes = from_hex(heap, line)?;
+    let message = message_in(bytes.as_deref());
+    let text = match &message {
+        Ok(message) => Line(*message).to_string(heap),
+        Err(fault) => fault.to_string(heap),
+    }?;
+    tally.count(message.is_err());
     Ok(text)
 }

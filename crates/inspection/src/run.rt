@@ -11,8 +11,7 @@ pub fn inspect_all(rt: &HostRuntime) -> io::Result<()> {
     for line in BufReader::new(heap, rt.stdin())?.split(heap, b'\n') {
         let line = line?;
         let text = line_text(heap, line.as_slice(), &mut tally)?;
-        rt.println(text.as_str())?;
+        println!(rt; "{text}")?;
     }
-    let summary = tally.summary_text(heap)?;
-    rt.println(summary.as_str())
+    println!(rt; "{tally}")
 }

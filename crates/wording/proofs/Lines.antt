@@ -5,7 +5,8 @@ use Rattle.content.specs.declared.rows.Read.{Read}
 use Rattle.content.specs.declared.rows.Write.{Write}
 use Rattle.layout.specs.Values.{Part, flag}
 use Rattle.wording.specs.Apart.{Each, SizedRead, SizedWrite, SizedPart, ToldApart}
-use Rattle.wording.specs.Wording.{read_words, write_words, spaced, listed, tail_text}
+use Rattle.content.specs.Words.{read_words, write_words}
+use Rattle.wording.specs.Wording.{spaced, listed, tail_text}
 use Rattle.wording.proofs.Figures.{ends, same_rest, same_number, number_starts}
 
 never : {X : Type 0} → true ≡ false → X

@@ -1,34 +1,76 @@
-use Rattle.std.proofs.Common.{◌≡◌, ℕ, ◌+◌, ◌*◌, ◌<◌, List, [], ◌∷◌, ◌++◌, map, length, get_or, take, drop, sym, ap, ◌∙◌, append_assoc, append-nil, add-one, lit<}
-use Rattle.std.specs.Prelude.{encode_utf8}
-use Rattle.std.proofs.lemmas.List.{map-append, take_more}
-use Rattle.std.proofs.lemmas.Str.{encode_ascii}
-use Rattle.layout.specs.Numbers.{Layout, width, rows_in}
-use Rattle.layout.proofs.Tables.{rows_next}
-use Rattle.wording.specs.Wording.{spaced}
+-- The rows that a loop has printed.
+use Rattle.std.proofs.Common.{◌≡◌, ℕ, ◌+◌, ◌-◌, ◌<◌, ◌≤◌, suc, Ok, Result, codes, decimal, List, [], ◌∷◌, ◌++◌, map, length, get_or, take, drop, Some, None, Option, refl, sym, ap, ◌∙◌, append-nil, arith}
+use Rattle.std.proofs.Output.{then_text_assoc, displays_on_IsOk_append, displays_on_ok_of_eq}
+use Rattle.std.proofs.lemmas.List.{take_more, take_all}
+use Rattle.std.specs.Fmt.{◌++?◌, DisplaysOnOk, WritesOnOk}
+use Rattle.std.specs.declared.fmt.Error.{Error}
+use Rattle.std.specs.declared.fmt.Formatter.{Formatter}
+use Rattle.content.specs.Words.{read_words, write_words}
+use Rattle.layout.specs.Values.{Part}
+use Rattle.wording.specs.Wording.{tail_text, spaced, listed, spaced_output, listed_output}
 
--- one more word at the end
-spaced_push : (ws : List (List ℕ)) (w : List ℕ) → spaced (ws ++ w ∷ []) ≡ spaced ws ++ (32 ∷ w)
-spaced_push [] w = ap (λ (l : List ℕ). 32 ∷ l) (append-nil w)
-spaced_push (v ∷ ws) w =
-    ap (λ (l : List ℕ). 32 ∷ (v ++ l)) (spaced_push ws w) ∙ ap (λ (l : List ℕ). 32 ∷ l) (sym (append_assoc v (spaced ws) (32 ∷ w)))
+none_after : (o : Option (List ℕ)) → o ++? Some [] ≡ o
+none_after None = refl
+none_after (Some t) = ap (λ (l : List ℕ). Some l) (append-nil t)
 
-module _ {X : Type 0} (word : X → List ℕ) where
-  -- one more row, written after a space
-  pub spaced_more :
-      (front t u v : List ℕ) (xs : List X) (i : ℕ) (x : X) → i < length xs → x ≡ get_or xs i x → t ≡ front ++ spaced (map word (take i xs))
-      → u ≡ t ++ encode_utf8 32 → v ≡ u ++ word x → v ≡ front ++ spaced (map word (take (i + 1) xs))
-  spaced_more front t u v xs i x l at p q r =
-      let more : take (i + 1) xs ≡ take i xs ++ x ∷ [] = take_more xs i x l ∙ ap (λ (y : X). take i xs ++ y ∷ []) (sym at) in
-      let words : map word (take (i + 1) xs) ≡ map word (take i xs) ++ word x ∷ [] = ap (map word) more ∙ map-append word (take i xs) (x ∷ []) in
-      let last : spaced (map word (take (i + 1) xs)) ≡ spaced (map word (take i xs)) ++ (32 ∷ word x) = ap spaced words ∙ spaced_push (map word (take i xs)) (word x) in
-      let space : encode_utf8 32 ≡ 32 ∷ [] = encode_ascii 32 (lit< tt) in
-      rw (r, q, p, space, last, append_assoc, append_assoc)
+none_before : (o : Option (List ℕ)) → Some [] ++? o ≡ o
+none_before None = refl
+none_before (Some t) = refl
 
-module _ {X : Type 0} (l : Layout X) {r : ℕ} (w : r ≡ l.rest) where
-  -- one more row, read from its place on
-  pub row_pushed :
-      (i : ℕ) (b rest : List ℕ) (x : X) (xs ys : List X) → xs ≡ rows_in l i b → rest ≡ drop ((4 + r) * i) b → x ≡ l.row rest → ys ≡ xs ++ x ∷ []
-      → ys ≡ rows_in l (i + 1) b
-  row_pushed i b rest x xs ys e d k p =
-      let here : x ≡ l.row (drop (width l * i) b) = k ∙ ap l.row (d ∙ ap (λ (n : ℕ). drop ((4 + n) * i) b) w) in
-      p ∙ ((λ j. e j ++ (here j ∷ [])) ∙ (sym (rows_next l i b) ∙ ap (λ (n : ℕ). rows_in l n b) (sym (add-one i))))
+module _ {X : Type 0} (output : X → Option (List ℕ)) where
+  abbrev after_space : X → Option (List ℕ)
+  after_space x = Some (32 ∷ []) ++? output x
+
+  spaced_cons : (x : X) (xs : List X) → spaced_output output (x ∷ xs) ≡ after_space x ++? spaced_output output xs
+  spaced_cons x xs = sym (then_text_assoc (Some (32 ∷ [])) (output x) (spaced_output output xs))
+
+  spaced_push : (xs : List X) (x : X) → spaced_output output (xs ++ x ∷ []) ≡ spaced_output output xs ++? after_space x
+  spaced_push [] x = spaced_cons x [] ∙ (none_after (after_space x) ∙ sym (none_before (after_space x)))
+  spaced_push (y ∷ xs) x =
+      spaced_cons y (xs ++ x ∷ []) ∙ ap (λ (o : Option (List ℕ)). after_space y ++? o) (spaced_push xs x)
+      ∙ sym (then_text_assoc (after_space y) (spaced_output output xs) (after_space x))
+      ∙ ap (λ (o : Option (List ℕ)). o ++? after_space x) (sym (spaced_cons y xs))
+
+  spaced_more : (xs : List X) (i : ℕ) (x : X) → i < length xs → x ≡ get_or xs i x
+      → spaced_output output (take i xs) ++? after_space x ≡ spaced_output output (take (i + 1) xs)
+  spaced_more xs i x h e =
+      sym (ap (spaced_output output) (take_more xs i x h ∙ ap (λ (y : X). take i xs ++ y ∷ []) (sym e)) ∙ spaced_push (take i xs) x)
+
+  -- the first row, and those behind it
+  listed_all : (xs : List X) (i : ℕ) (x : X) → 0 < length xs → length xs ≤ i + 1 → x ≡ get_or xs 0 x
+      → output x ++? spaced_output output (take i (take (length xs - 1) (drop 1 xs))) ≡ listed_output output xs
+  listed_all [] i x h k e = absurd (omega arith)
+  listed_all (y ∷ xs) i x h k e =
+      let all : take i (take (suc (length xs) - 1) xs) ≡ xs = ap (take i) (take_all (suc (length xs) - 1) xs (omega arith)) ∙ take_all i xs (omega arith) in
+      λ j. output (e j) ++? spaced_output output (all j)
+
+  module _ {W : Type 0} (took : W → List ℕ → W → Type 0) (f g h : Formatter W) where
+    -- one more row, after a space
+    pub row_printed : (xs : List X) (i : ℕ) (x : X) → i < length xs → x ≡ get_or xs i x
+        → DisplaysOnOk took f (Ok tt) (spaced_output output (take i xs)) g → DisplaysOnOk took g (Ok tt) (after_space x) h
+        → DisplaysOnOk took f (Ok tt) (spaced_output output (take (i + 1) xs)) h
+    row_printed xs i x l e p q =
+        displays_on_ok_of_eq took f h (Ok tt) _ _ (spaced_more xs i x l e) (displays_on_IsOk_append took f g h (Ok tt) (Ok tt) _ _ (λ ok. ok) p q)
+
+    -- the first row, and those behind it
+    pub all_printed : (xs : List X) (i : ℕ) (x : X) → 0 < length xs → length xs ≤ i + 1 → x ≡ get_or xs 0 x
+        → DisplaysOnOk took f (Ok tt) (output x) g → DisplaysOnOk took g (Ok tt) (spaced_output output (take i (take (length xs - 1) (drop 1 xs)))) h
+        → DisplaysOnOk took f (Ok tt) (listed_output output xs) h
+    all_printed xs i x l k e p q =
+        displays_on_ok_of_eq took f h (Ok tt) _ _ (listed_all xs i x l k e) (displays_on_IsOk_append took f g h (Ok tt) (Ok tt) _ _ (λ ok. ok) p q)
+
+-- rows whose texts are known
+spaced_known : {X : Type 0} (word : X → List ℕ) (xs : List X) → spaced_output (λ x. Some (word x)) xs ≡ Some (spaced (map word xs))
+spaced_known word [] = refl
+spaced_known word (x ∷ xs) = ap (λ (o : Option (List ℕ)). Some (32 ∷ []) ++? Some (word x) ++? o) (spaced_known word xs)
+
+pub listed_known : {X : Type 0} (word : X → List ℕ) (xs : List X) → listed_output (λ x. Some (word x)) xs ≡ Some (listed (map word xs))
+listed_known word [] = refl
+listed_known word (x ∷ xs) = ap (λ (o : Option (List ℕ)). Some (word x) ++? o) (spaced_known word xs)
+
+-- a content, whose rows are printed as lists
+pub content_printed : {W : Type 0} (took : W → List ℕ → W → Type 0) (f g : Formatter W) (r : Result (Unit {0}) Error) (p : Part)
+    → DisplaysOnOk took f r (Some (codes " second=") ++? Some (decimal p.second) ++? Some (codes " reads=[") ++? listed_output (λ x. Some (read_words x)) p.reads ++? Some (codes "] writes=[") ++? listed_output (λ x. Some (write_words x)) p.writes ++? Some (codes "]")) g
+    → WritesOnOk took f r (tail_text (Some p)) g
+content_printed took f g r p d =
+    displays_on_ok_of_eq took f g r _ _ (λ i. Some (codes " second=") ++? Some (decimal p.second) ++? Some (codes " reads=[") ++? listed_known read_words p.reads i ++? Some (codes "] writes=[") ++? listed_known write_words p.writes i ++? Some (codes "]")) d

@@ -1,17 +1,10 @@
 use Rattle.std.specs.Prelude.{ℕ, List, [], ◌∷◌, ◌++◌, map, Some, None, codes, decimal, Option, encode_utf8}
+use Rattle.std.specs.Fmt.{◌++?◌}
 use Prim.Native.String.{String}
-use Rattle.content.specs.declared.rows.Read.{Read}
-use Rattle.content.specs.declared.rows.Write.{Write}
+use Rattle.content.specs.Words.{read_words, write_words}
 use Rattle.layout.specs.Values.{Value, Part, flag}
-use Rattle.values.specs.Numbers.{refusal_number, refusal_value}
+use Rattle.values.specs.Words.{refusal_words}
 use Rattle.values.specs.declared.refusal.Refusal.{Refusal}
-
--- a read is its key and the version that it saw
-abbrev pub read_words : Read → List ℕ
-read_words r = decimal r.key ++ (codes "@" ++ (decimal r.version.second ++ (codes "." ++ decimal r.version.transaction)))
-
-abbrev pub write_words : Write → List ℕ
-write_words w = decimal w.key ++ (codes "=" ++ decimal w.value)
 
 -- words, each after a space
 abbrev pub spaced : List (List ℕ) → List ℕ
@@ -22,6 +15,15 @@ spaced (w ∷ ws) = codes " " ++ (w ++ spaced ws)
 abbrev pub listed : List (List ℕ) → List ℕ
 listed [] = []
 listed (w ∷ ws) = w ++ spaced ws
+
+-- the same of rows by what each prints, if that is known of each
+abbrev pub spaced_output : {X : Type 0} → (X → Option (List ℕ)) → List X → Option (List ℕ)
+spaced_output output [] = Some []
+spaced_output output (x ∷ xs) = Some (codes " ") ++? output x ++? spaced_output output xs
+
+abbrev pub listed_output : {X : Type 0} → (X → Option (List ℕ)) → List X → Option (List ℕ)
+listed_output output [] = Some []
+listed_output output (x ∷ xs) = output x ++? spaced_output output xs
 
 -- numbers, each after its word, and then the rest
 abbrev pub labelled : List (String × ℕ) → List ℕ → List ℕ
@@ -46,9 +48,5 @@ text v =
     ++ labelled ((" filing=", h.transaction) ∷ (" sender=", h.sender) ∷ (" view=", h.view) ∷ (" code=", h.code) ∷ [])
     (rest_text h.accepted h.accepted_view v.content)
 
-abbrev pub place_text : Option ℕ → List ℕ
-place_text None = []
-place_text (Some p) = codes " at " ++ decimal p
-
 abbrev pub refusal_text : Refusal → List ℕ
-refusal_text r = codes "refused " ++ (decimal (refusal_number r) ++ place_text (refusal_value r))
+refusal_text r = codes "refused " ++ refusal_words r
