@@ -1,56 +1,41 @@
-use Rattle.std.proofs.Common.{◌≡◌, ℕ, zero, suc, ◌+◌, ◌*◌, ◌%◌, ◌<◌, Bool, true, cond, ◌&&◌, eqb, ltb, ◌⊎◌, List, [], ◌∷◌, ◌++◌, length, get_or, drop, Some, None, codes, Option, sym, refl, ap, ◌∙◌, subst, inl, inr, ⊎_elim, append_assoc, append-nil, arith, drop-cons, eqb-true, get_or-drop}
-use Rattle.std.proofs.lemmas.List.{drop_all}
+-- Hex digits, and the bytes that they spell.
+use Rattle.std.proofs.Common.{◌≡◌, ℕ, zero, suc, ◌+◌, ◌*◌, ◌/◌, ◌%◌, ◌<◌, Bool, true, cond, ◌&&◌, eqb, ltb, ◌⊎◌, List, [], ◌∷◌, length, get_or, Some, None, Ok, Err, codes, Option, Result, sym, refl, ap, ◌∙◌, subst, inl, inr, ⊎_elim, arith, eqb-true, MatchResult}
+use Rattle.std.proofs.lemmas.Bool.{cases_eq}
 use Rattle.std.proofs.lemmas.Bool.Decides.{nat_tests}
-use Rattle.std.specs.Simd.{first_chunks}
+use Rattle.std.specs.Bool.{then_some}
+use Rattle.std.specs.Option.{option_map}
+use Rattle.std.specs.Result.{is_ok}
+use Rattle.hex.proofs.HexLemmas.{decode_of-even, decode_sized-odd, decode_sized-twice}
+use Rattle.hex.specs.Hex.{hex_digit_value, digit_or_error, decode_pairs, decode_sized, ◌>>=◌}
+use Rattle.hex.specs.declared.error.FromHexError.{FromHexError}
 use Rattle.inspection.specs.Spelling.{digit, paired, byte, onto, unhex, Stands, Pair, Hex}
 
--- bs before what is still to be read
-abbrev pub after : List ℕ → Option (List ℕ) → Option (List ℕ)
-after bs None = None
-after bs (Some ds) = Some (bs ++ ds)
+-- the digits are those that the crate `hex` reads
+same_digit : (c : ℕ) → hex_digit_value c ≡ digit c
+same_digit c = grind (arith, nat_tests)
 
-pub after_none : (o : Option (List ℕ)) → o ≡ after [] o
-after_none None = refl
-after_none (Some ds) = refl
+-- what is read of two characters and of those behind them
+pair_read :
+    (c d i : ℕ) (p q : Option ℕ) (r : Result (List ℕ) FromHexError) (o : Option (List ℕ)) → MatchResult r (λ bs. o ≡ Some bs) (λ e. o ≡ None)
+    → MatchResult ((digit_or_error c i p >>= (λ h. digit_or_error d (i + 1) q >>= (λ l. Ok (h * 16 + l)))) >>= (λ b. r >>= (λ bs. Ok (b ∷ bs))))
+    (λ bs. onto (paired p q) o ≡ Some bs) (λ e. onto (paired p q) o ≡ None)
+pair_read c d i None q r o m = refl
+pair_read c d i (Some x) None r o m = refl
+pair_read c d i (Some x) (Some y) (Ok bs) o m =
+    let e : 16 * x + y ≡ x * 16 + y = omega arith in
+    ap (onto (Some (16 * x + y))) m ∙ ap (λ (n : ℕ). Some (n ∷ bs)) e
+pair_read c d i (Some x) (Some y) (Err e) o m = ap (onto (Some (16 * x + y))) m
 
-after_one : (bs : List ℕ) (x : ℕ) (o : Option (List ℕ)) → after bs (onto (Some x) o) ≡ after (bs ++ x ∷ []) o
-after_one bs x None = refl
-after_one bs x (Some ds) = ap (λ (l : List ℕ). Some l) (sym (append_assoc bs (x ∷ []) ds))
+pairs_read : (i : ℕ) (cs : List ℕ) → MatchResult (decode_pairs i cs) (λ bs. unhex cs ≡ Some bs) (λ e. unhex cs ≡ None)
+unfolding decode_pairs
+pairs_read i [] = refl
+pairs_read i (c ∷ []) = refl
+pairs_read i (c ∷ d ∷ cs) =
+    subst (λ (o : Option ℕ). MatchResult (decode_pairs i (c ∷ d ∷ cs)) (λ bs. onto o (unhex cs) ≡ Some bs) (λ e. onto o (unhex cs) ≡ None))
+    (λ j. paired (same_digit c j) (same_digit d j))
+    (pair_read c d i (hex_digit_value c) (hex_digit_value d) (decode_pairs (i + 2) cs) (unhex cs) (pairs_read (i + 2) cs))
 
--- the two characters at 2 * i are read next
-two : (cs : List ℕ) (i : ℕ) → 2 * i + 1 < length cs → unhex (drop (2 * i) cs) ≡ onto (byte (get_or cs (2 * i) 0) (get_or cs (2 * i + 1) 0)) (unhex (drop (2 * (i + 1)) cs))
-two cs i h =
-    let a : 2 * i < length cs = omega arith in
-    let e : 2 * (i + 1) ≡ suc (suc (2 * i)) = omega arith in
-    let f : 2 * i + 1 ≡ suc (2 * i) = omega arith in
-    let b : suc (2 * i) < length cs = omega arith in
-    rw (e, f, drop-cons cs (2 * i) 0 a, drop-cons cs (suc (2 * i)) 0 b)
-
--- the i-th pair of characters
-pair : (cs : List ℕ) (n i : ℕ) (d : List ℕ) → i < n → let xs = get_or (first_chunks 2 n cs) i d in (get_or xs 0 0 ≡ get_or cs (2 * i) 0) × (get_or xs 1 0 ≡ get_or cs (2 * i + 1) 0)
-pair cs zero i d h = absurd (omega arith)
-pair [] (suc n) zero d h = (refl, refl)
-pair (b ∷ []) (suc n) zero d h = (refl, refl)
-pair (b ∷ c ∷ cs) (suc n) zero d h = (refl, refl)
-pair cs (suc n) (suc i) d h =
-    let p = pair (drop 2 cs) n i d (omega arith) in
-    let e : 2 + 2 * i ≡ 2 * suc i = omega arith in
-    let f : 2 + (2 * i + 1) ≡ 2 * suc i + 1 = omega arith in
-    (p.0 ∙ get_or-drop 2 cs (2 * i) 0 ∙ ap (λ (k : ℕ). get_or cs k 0) e, p.1 ∙ get_or-drop 2 cs (2 * i + 1) 0 ∙ ap (λ (k : ℕ). get_or cs k 0) f)
-
--- what is made of a pair is made of the two characters
-pub paired_byte : {o : Option ℕ} (cs : List ℕ) (pairs : List (List ℕ)) (n i : ℕ) (d : List ℕ) → pairs ≡ first_chunks 2 n cs → i < n → o ≡ byte (get_or (get_or pairs i d) 0 0) (get_or (get_or pairs i d) 1 0) → byte (get_or cs (2 * i) 0) (get_or cs (2 * i + 1) 0) ≡ o
-paired_byte cs pairs n i d e h k =
-    let p = pair cs n i d h in
-    (λ j. byte (sym p.0 j) (sym p.1 j)) ∙ ap (λ (ps : List (List ℕ)). byte (get_or (get_or ps i d) 0 0) (get_or (get_or ps i d) 1 0)) (sym e) ∙ sym k
-
-pub after_more : (cs bs : List ℕ) (i x : ℕ) → 2 * i + 1 < length cs → byte (get_or cs (2 * i) 0) (get_or cs (2 * i + 1) 0) ≡ Some x → unhex cs ≡ after bs (unhex (drop (2 * i) cs)) → unhex cs ≡ after (bs ++ x ∷ []) (unhex (drop (2 * (i + 1)) cs))
-after_more cs bs i x h e k = k ∙ (ap (after bs) (two cs i h ∙ ap (λ (o : Option ℕ). onto o (unhex (drop (2 * (i + 1)) cs))) e) ∙ after_one bs x (unhex (drop (2 * (i + 1)) cs)))
-
-pub after_broken : (cs bs : List ℕ) (i : ℕ) → 2 * i + 1 < length cs → byte (get_or cs (2 * i) 0) (get_or cs (2 * i + 1) 0) ≡ None → unhex cs ≡ after bs (unhex (drop (2 * i) cs)) → unhex cs ≡ None
-after_broken cs bs i h e k = k ∙ ap (after bs) (two cs i h ∙ ap (λ (o : Option ℕ). onto o (unhex (drop (2 * (i + 1)) cs))) e)
-
-pub unhex_odd : (cs : List ℕ) → length cs % 2 ≡ 1 → unhex cs ≡ None
+unhex_odd : (cs : List ℕ) → length cs % 2 ≡ 1 → unhex cs ≡ None
 unhex_odd [] h = absurd (omega arith)
 unhex_odd (c ∷ []) h = refl
 unhex_odd (c ∷ d ∷ cs) h = ap (onto (byte c d)) (unhex_odd cs (omega arith)) ∙ onto_none (byte c d)
@@ -58,6 +43,25 @@ unhex_odd (c ∷ d ∷ cs) h = ap (onto (byte c d)) (unhex_odd cs (omega arith))
     onto_none : (o : Option ℕ) → onto o None ≡ None
     onto_none None = refl
     onto_none (Some x) = refl
+
+sized_read : (cs : List ℕ) (n : ℕ) → n ≡ length cs / 2 → MatchResult (decode_sized cs n) (λ bs. unhex cs ≡ Some bs) (λ e. unhex cs ≡ None)
+sized_read cs n h = elim (cases_eq (length cs % 2) 1) [
+  | inl odd ↦ rw (decode_sized-odd cs n odd) (unhex_odd cs odd)
+  | inr even ↦
+      let e : decode_sized cs n ≡ decode_pairs 0 cs = decode_sized-twice cs n (omega arith) ∙ decode_of-even cs (omega arith) in
+      rw e (pairs_read 0 cs)
+]
+
+-- what is read into half as many bytes, which x holds
+pub all_read :
+    {X : Type 0} (held : X → List ℕ) (x : X) (cs out : List ℕ) (n : ℕ) (r : Result (Unit {0}) FromHexError) → held x ≡ out → n ≡ length cs / 2
+    → MatchResult (decode_sized cs n) (λ bs. (r ≡ Ok tt) × (out ≡ bs)) (λ e. r ≡ Err e) → option_map held (then_some (is_ok r) x) ≡ unhex cs
+all_read held x cs out n r g h m = both (decode_sized cs n) m (sized_read cs n h)
+  where
+    both : (d : Result (List ℕ) FromHexError) → MatchResult d (λ bs. (r ≡ Ok tt) × (out ≡ bs)) (λ e. r ≡ Err e)
+        → MatchResult d (λ bs. unhex cs ≡ Some bs) (λ e. unhex cs ≡ None) → option_map held (then_some (is_ok r) x) ≡ unhex cs
+    both (Ok bs) m k = rw m.0 (ap (λ (l : List ℕ). Some l) (g ∙ m.1) ∙ sym k)
+    both (Err e) m k = rw m (sym k)
 
 -- a test that holds of each number below n
 abbrev all_below : (ℕ → Bool) → ℕ → Bool
@@ -96,11 +100,6 @@ stands_not c n e s =
     let low = lower n s.small in
     let high = upper n s.small in
     grind (arith, nat_tests)
-
-pub after_all : (cs bs : List ℕ) (i : ℕ) → length cs ≡ 2 * i → unhex cs ≡ after bs (unhex (drop (2 * i) cs)) → Some bs ≡ unhex cs
-after_all cs bs i h k =
-    let e : drop (2 * i) cs ≡ [] = drop_all (2 * i) cs (omega arith) in
-    sym (k ∙ ap (λ (l : List ℕ). after bs (unhex l)) e ∙ ap (λ (l : List ℕ). Some l) (append-nil bs))
 
 -- two more characters in front
 step : (c d : ℕ) (cs : List ℕ) (p q : Option ℕ) (o : Option (List ℕ)) → digit c ≡ p → digit d ≡ q → Hex cs o → Hex (c ∷ d ∷ cs) (onto (paired p q) o)

@@ -1,27 +1,18 @@
-use Rattle.std.proofs.Common.{◌/◌, length, Some, None, vec_items, sym, ◌∙◌, arith}
-use Rattle.inspection.proofs.Bytes.{unhex_odd, paired_byte, after_more, after_broken, after_all, read_as}
+use Rattle.std.proofs.Common.{◌≡◌, vec_items, ◌∙◌}
+use Rattle.std.specs.Option.{option_map}
+use Rattle.std.specs.Vec.{with_items}
+use Rattle.std.proofs.lemmas.List.{with_items_is}
+use Rattle.inspection.proofs.Bytes.{all_read, read_as}
+use Rattle.inspection.specs.Spelling.{unhex}
 use Rattle.inspection.proofs.hex.from_hex.Goals as goal
-
-pub returns-in_default-clause-value : goal.returns-in_default-clause-value
-returns-in_default-clause-value c = sym (unhex_odd c.args.line.now (omega arith))
-
-pub returns-in_default-byte_value : goal.returns-in_default-byte_value
-returns-in_default-byte_value c =
-    let line = c.args.line.now in
-    let i = c.loop-high.high-index in
-    let byte = paired_byte line c.as_chunks.result.0.now (length line / 2) i _ c.as_chunks.ensures.front (omega arith) c.byte_value.ensures in
-    let e = sym (after_broken line (vec_items c.loop-high.bytes) i (omega arith) (byte ∙ c.in_default-byte_value.is) c.loop-high.invariant) in
-    record { value = e; spelled = read_as line None e }
-
-pub loop-high-preserved : goal.loop-high-preserved
-loop-high-preserved c =
-    let line = c.args.line.now in
-    let i = c.loop-high.high-index in
-    let byte = paired_byte line c.as_chunks.result.0.now (length line / 2) i _ c.as_chunks.ensures.front (omega arith) c.byte_value.ensures in
-    let more = after_more line (vec_items c.loop-high.bytes) i c.in-Some.byte (omega arith) (byte ∙ c.in-Some.is) c.loop-high.invariant in
-    rw c.in_ok-push.ensures.items more
 
 pub returns : goal.returns
 returns c =
-    let e = after_all c.args.line.now (vec_items c.loop-high.bytes) c.loop-high.high-index (omega arith) c.loop-high.invariant in
-    record { value = e; spelled = read_as c.args.line.now (Some (vec_items c.loop-high.bytes)) e }
+    let line = c.args.line.now in
+    let bytes = c.in_ok-bytes.bytes in
+    let out = c.decode_to_slice-read.new.out in
+    let held = with_items_is bytes out (c.decode_to_slice-read.auto.out ∙ c.as_mut_slice.ensures.len) in
+    let value : option_map vec_items c.then_some.result ≡ unhex line =
+    rw (c.then_some.ensures, c.is_ok.ensures.value)
+    (all_read vec_items (with_items bytes out) line out _ c.decode_to_slice-read.result held (c.as_mut_slice.ensures.len ∙ c.in_ok-bytes.ensures.len) c.decode_to_slice-read.ensures.value) in
+    record { value = value; spelled = read_as line _ value }
