@@ -1,16 +1,16 @@
 -- A message can be read back from its line.
 use Rattle.std.proofs.Common.{◌≡◌, ℕ, ◌<◌, true, false, List, [], ◌∷◌, ◌++◌, map, Some, None, codes, Option, sym, refl, ap, ◌∙◌, append_assoc, arith}
+use Rattle.std.proofs.lemmas.Bool.{true≢false}
+use Rattle.std.proofs.lemmas.List.{append_cancel_left}
 use Rattle.std.proofs.lemmas.Str.{encode_same}
 use Rattle.content.specs.declared.rows.Read.{Read}
 use Rattle.content.specs.declared.rows.Write.{Write}
+use Rattle.layout.specs.Numbers.{Each}
 use Rattle.layout.specs.Values.{Part, flag}
-use Rattle.wording.specs.Apart.{Each, SizedRead, SizedWrite, SizedPart, ToldApart}
+use Rattle.wording.specs.Apart.{SizedRead, SizedWrite, SizedPart, ToldApart}
 use Rattle.content.specs.Words.{read_words, write_words}
 use Rattle.wording.specs.Wording.{spaced, listed, tail_text}
-use Rattle.wording.proofs.Figures.{ends, same_rest, same_number, number_starts}
-
-never : {X : Type 0} → true ≡ false → X
-never e = let z : ◌≡◌ {A = ℕ} 0 1 = cc in absurd (omega arith)
+use Rattle.wording.proofs.Figures.{ends, same_number, number_starts}
 
 module _ {X : Type 0} (word : X → List ℕ) (Fits : X → Type 0) (same : (x y : X) (r s : List ℕ) → Fits x → Fits y → ends r ≡ true → ends s ≡ true → word x ++ r ≡ word y ++ s → (x ≡ y) × (r ≡ s)) (starts : (x : X) (r : List ℕ) → Fits x → ends (word x ++ r) ≡ false) where
   -- a bracket closes a list
@@ -32,19 +32,19 @@ module _ {X : Type 0} (word : X → List ℕ) (Fits : X → Type 0) (same : (x y
       ((λ i. p.0 i ∷ q.0 i), q.1)
 
   spaced_same : (xs ys : List X) (r s : List ℕ) → Each Fits xs → Each Fits ys → spaced (map word xs) ++ (93 ∷ r) ≡ spaced (map word ys) ++ (93 ∷ s) → Same xs ys r s
-  spaced_same [] [] r s f g e = (refl, same_rest (93 ∷ []) r s e)
+  spaced_same [] [] r s f g e = (refl, append_cancel_left (93 ∷ []) r s e)
   spaced_same [] (y ∷ ys) r s f g e = let z : ◌≡◌ {A = ℕ} 93 32 = cc in absurd (omega arith)
   spaced_same (x ∷ xs) [] r s f g e = let z : ◌≡◌ {A = ℕ} 32 93 = cc in absurd (omega arith)
   spaced_same (x ∷ xs) (y ∷ ys) r s f g e =
-      more x y xs ys r s f.0 g.0 (spaced_same xs ys r s f.1 g.1) (same_rest (32 ∷ []) _ _ e)
+      more x y xs ys r s f.0 g.0 (spaced_same xs ys r s f.1 g.1) (append_cancel_left (32 ∷ []) _ _ e)
 
   -- a list that has a row begins with a digit, and an empty one with its bracket
   not_empty : (x : X) (xs : List X) (r s : List ℕ) → Fits x → 93 ∷ r ≡ (word x ++ spaced (map word xs)) ++ (93 ∷ s) → ⊥
   not_empty x xs r s f e =
-      never (ap ends (e ∙ append_assoc (word x) (spaced (map word xs)) (93 ∷ s)) ∙ starts x (spaced (map word xs) ++ (93 ∷ s)) f)
+      true≢false (ap ends (e ∙ append_assoc (word x) (spaced (map word xs)) (93 ∷ s)) ∙ starts x (spaced (map word xs) ++ (93 ∷ s)) f)
 
   pub listed_same : (xs ys : List X) (r s : List ℕ) → Each Fits xs → Each Fits ys → listed (map word xs) ++ (93 ∷ r) ≡ listed (map word ys) ++ (93 ∷ s) → Same xs ys r s
-  listed_same [] [] r s f g e = (refl, same_rest (93 ∷ []) r s e)
+  listed_same [] [] r s f g e = (refl, append_cancel_left (93 ∷ []) r s e)
   listed_same [] (y ∷ ys) r s f g e = absurd (not_empty y ys r s g.0 e)
   listed_same (x ∷ xs) [] r s f g e = absurd (not_empty x xs s r f.0 (sym e))
   listed_same (x ∷ xs) (y ∷ ys) r s f g e = more x y xs ys r s f.0 g.0 (spaced_same xs ys r s f.1 g.1) e
@@ -82,8 +82,8 @@ tail_same None (Some q) f g n e = absurd (omega arith)
 tail_same (Some p) None f g n e = absurd (omega arith)
 tail_same (Some p) (Some q) f g n e =
     let second = same_number (codes " second=") p.second q.second _ _ f.0 g.0 refl refl e in
-    let reads = listed_same read_words SizedRead read_same read_starts p.reads q.reads _ _ f.1 g.1 (same_rest (codes " reads=[") _ _ second.1) in
-    let writes = listed_same write_words SizedWrite write_same write_starts p.writes q.writes [] [] f.2 g.2 (same_rest (codes " writes=[") _ _ reads.1) in
+    let reads = listed_same read_words SizedRead read_same read_starts p.reads q.reads _ _ f.1 g.1 (append_cancel_left (codes " reads=[") _ _ second.1) in
+    let writes = listed_same write_words SizedWrite write_same write_starts p.writes q.writes [] [] f.2 g.2 (append_cancel_left (codes " writes=[") _ _ reads.1) in
     λ i. Some (record { second = second.0 i; reads = reads.0 i; writes = writes.0 i })
 
 pub told_apart : ToldApart

@@ -1,16 +1,13 @@
-use Rattle.std.specs.Prelude.{◌≡◌, ℕ, ◌^◌, ◌<◌, List, [], ◌∷◌, Some, None, Option}
+use Rattle.std.specs.Prelude.{◌≡◌, ℕ, ◌^◌, ◌<◌, Some, None, Option}
 use Rattle.content.specs.declared.rows.Read.{Read}
 use Rattle.content.specs.declared.rows.Write.{Write}
+use Rattle.layout.specs.Numbers.{Each}
 use Rattle.layout.specs.Values.{Value, Part}
 use Rattle.wording.specs.Wording.{text}
 
 -- a number of the code
 abbrev pub Sized : ℕ → Type 0
 Sized n = n < 2 ^ 64
-
-abbrev pub Each : {X : Type 0} → (X → Type 0) → List X → Type 0
-Each P [] = Unit {0}
-Each P (x ∷ xs) = P x × Each P xs
 
 abbrev pub SizedRead : Read → Type 0
 SizedRead r = Sized r.key × Sized r.version.second × Sized r.version.transaction
