@@ -1,6 +1,6 @@
 -- Hex digits, and the bytes that they spell.
 use Rattle.std.proofs.Common.{◌≡◌, ℕ, zero, suc, ◌+◌, ◌*◌, ◌/◌, ◌%◌, ◌<◌, Bool, true, cond, ◌&&◌, eqb, ltb, ◌⊎◌, List, [], ◌∷◌, length, get_or, Some, None, Ok, Err, codes, Option, Result, sym, refl, ap, ◌∙◌, subst, inl, inr, ⊎_elim, arith, eqb-true, MatchResult}
-use Rattle.std.proofs.lemmas.Bool.{cases_eq}
+use Rattle.std.proofs.lemmas.Bool.{cases_eq, agree_below_at}
 use Rattle.std.proofs.lemmas.Bool.Decides.{nat_tests}
 use Rattle.std.specs.Bool.{then_some}
 use Rattle.std.specs.Option.{option_map}
@@ -63,30 +63,12 @@ all_read held x cs out n r g h m = both (decode_sized cs n) m (sized_read cs n h
     both (Ok bs) m k = rw m.0 (ap (λ (l : List ℕ). Some l) (g ∙ m.1) ∙ sym k)
     both (Err e) m k = rw m (sym k)
 
--- a test that holds of each number below n
-abbrev all_below : (ℕ → Bool) → ℕ → Bool
-all_below p zero = true
-all_below p (suc n) = p n && all_below p n
-
-at : (p : ℕ → Bool) (n k : ℕ) → all_below p n ≡ true → k < n → p k ≡ true
-at p zero k e h = absurd (omega arith)
-at p (suc n) k e h = ⊎_elim (λ (l : k < n). at p n k (and_right (p n) (all_below p n) e) l) (λ (q : k ≡ n). subst (λ (m : ℕ). p m ≡ true) (sym q) (and_left (p n) (all_below p n) e)) (cases k n h)
-  where
-    cases : (k n : ℕ) → k < suc n → (k < n) ⊎ (k ≡ n)
-    cases k n h = search arith
-
-    and_left : (a b : Bool) → a && b ≡ true → a ≡ true
-    and_left a b e = grind (arith, nat_tests)
-
-    and_right : (a b : Bool) → a && b ≡ true → b ≡ true
-    and_right a b e = grind (arith, nat_tests)
-
 -- the digits by their order in a text
 lower : (n : ℕ) → n < 16 → get_or (codes "0123456789abcdef") n 0 ≡ cond (ltb n 10) (48 + n) (87 + n)
-lower n h = eqb-true _ _ (at (λ k. eqb (get_or (codes "0123456789abcdef") k 0) (cond (ltb k 10) (48 + k) (87 + k))) 16 n refl h)
+lower n h = eqb-true _ _ (agree_below_at (λ k. eqb (get_or (codes "0123456789abcdef") k 0) (cond (ltb k 10) (48 + k) (87 + k))) (λ _. true) 16 n refl h)
 
 upper : (n : ℕ) → n < 16 → get_or (codes "0123456789ABCDEF") n 0 ≡ cond (ltb n 10) (48 + n) (55 + n)
-upper n h = eqb-true _ _ (at (λ k. eqb (get_or (codes "0123456789ABCDEF") k 0) (cond (ltb k 10) (48 + k) (55 + k))) 16 n refl h)
+upper n h = eqb-true _ _ (agree_below_at (λ k. eqb (get_or (codes "0123456789ABCDEF") k 0) (cond (ltb k 10) (48 + k) (55 + k))) (λ _. true) 16 n refl h)
 
 stands : (c n : ℕ) → digit c ≡ Some n → Stands c n
 stands c n e =

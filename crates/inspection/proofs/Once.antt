@@ -11,9 +11,6 @@ use Rattle.inspection.specs.Saying.{OneAnswer}
 use Rattle.inspection.specs.Saying.Says.{not_hex, broken, framed}
 use Rattle.wording.specs.Wording.{text, refusal_text}
 
-never : {X : Type 0} (o : Option (List ℕ)) (b : List ℕ) → o ≡ None → o ≡ Some b → X
-never o b p q = let z : ◌≡◌ {A = ℕ} 0 1 = cc in absurd (omega arith)
-
 same_bytes : (o : Option (List ℕ)) (b c : List ℕ) → o ≡ Some b → o ≡ Some c → b ≡ c
 same_bytes o b c p q = cc
 
@@ -25,14 +22,14 @@ apart o b e v p k q l =
 
 pub one_answer : OneAnswer
 one_answer line w x r s (not_hex a p q) (not_hex b t u) = (p ∙ sym t, q ∙ sym u)
-one_answer line w x r s (not_hex a p q) (broken c e b k t u) = never _ c a b
-one_answer line w x r s (not_hex a p q) (framed v b l t u) = never _ (frame v) a b
-one_answer line w x r s (broken c e a k p q) (not_hex b t u) = never _ c b a
+one_answer line w x r s (not_hex a p q) (broken c e b k t u) = cc (sym a ∙ b)
+one_answer line w x r s (not_hex a p q) (framed v b l t u) = cc (sym a ∙ b)
+one_answer line w x r s (broken c e a k p q) (not_hex b t u) = cc (sym b ∙ a)
 one_answer line w x r s (broken c e a k p q) (broken d f b m t u) =
     let m' = subst (λ (y : List ℕ). Breaks (length y) (byte_fields y) f) (same_bytes _ d c b a) m in
     (p ∙ (ap refusal_text (one_verdict.one_place (length c) (byte_fields c) e f k m') ∙ sym t), q ∙ sym u)
 one_answer line w x r s (broken c e a k p q) (framed v b l t u) = absurd (apart _ c e v a k b l)
-one_answer line w x r s (framed v a l p q) (not_hex b t u) = never _ (frame v) b a
+one_answer line w x r s (framed v a l p q) (not_hex b t u) = cc (sym b ∙ a)
 one_answer line w x r s (framed v a l p q) (broken c e b k t u) = absurd (apart _ c e v b k a l)
 one_answer line w x r s (framed v a l p q) (framed y b m t u) =
     (p ∙ (ap text (one_frame v y l m (same_bytes _ (frame v) (frame y) a b)) ∙ sym t), q ∙ sym u)
