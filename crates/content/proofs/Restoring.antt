@@ -1,6 +1,7 @@
 use Rattle.std.proofs.Common.{Ok, Err, ap, ◌∙◌}
 use Rattle.std.proofs.lemmas.Bool.{both_ways}
-use Rattle.content.specs.Storing.{restorable, stored_body, RestoresStored}
+use Rattle.content.specs.Numbers.{stored_body}
+use Rattle.content.specs.Storing.{restorable, RestoresStored}
 use Rattle.content.proofs.Whole.{told_by_body}
 
 pub restores_stored : RestoresStored

@@ -37,9 +37,7 @@ sound_tested = record {
 pub told_by_body : ToldByBody
 told_by_body c d e =
     λ i. record {
-      timestamp = (e i).timestamp;
-      reads = (e i).reads;
-      writes = (e i).writes;
+      stored = record { timestamp = (e i).timestamp; reads = (e i).reads; writes = (e i).writes };
       ok = is_prop→PathP (λ j. sound (e j) ≡ true) (λ j. Bool-set _ true) c.ok d.ok i;
     }
 

@@ -1,10 +1,11 @@
 use Rattle.std.specs.Prelude.{◌≡◌, true, false, Some, None, Option}
-use Rattle.content.specs.Rules.{Body, body_of, sound}
+use Rattle.content.specs.Rules.{Body, sound}
+use Rattle.content.specs.Numbers.{stored_body}
 use Rattle.content.specs.declared.content.Content.{Content}
 
 -- what the content says
 abbrev pub body : Content → Body
-body c = body_of c.timestamp c.reads c.writes
+body c = stored_body c.stored
 
 -- the content that says it, or none exactly if it is not sound
 abbrev pub Made : Body → Option Content → Type 0

@@ -1,4 +1,5 @@
 pub mod Rules
+pub mod Numbers
 pub mod Contents
 pub mod Storing
 pub mod Words

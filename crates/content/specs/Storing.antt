@@ -1,16 +1,13 @@
 use Rattle.std.specs.Prelude.{◌≡◌, Bool, true, false, Ok, Err, Result}
-use Rattle.content.specs.Rules.{Body, body_of, sound}
+use Rattle.content.specs.Rules.{sound}
+use Rattle.content.specs.Numbers.{stored_body}
 use Rattle.content.specs.Contents.{body}
 use Rattle.content.specs.declared.content.Content.{Content}
 use Rattle.content.specs.declared.stored.StoredContent.{StoredContent}
 use Rattle.content.specs.declared.stored.Unsound.{Unsound}
 
 abbrev pub stored : Content → StoredContent
-stored c = record { timestamp = c.timestamp; reads = c.reads; writes = c.writes }
-
--- what the numbers say
-abbrev pub stored_body : StoredContent → Body
-stored_body s = body_of s.timestamp s.reads s.writes
+stored c = c.stored
 
 -- the numbers are those of a content
 abbrev pub restorable : StoredContent → Bool

@@ -5,6 +5,7 @@ ghost use Rattle.content.specs.Rules.{SoundTested, body_of, few, reads_before, s
 use crate::content::Content;
 use crate::keyed::keys_differ;
 use crate::rows::{Read, Write};
+use crate::stored::StoredContent;
 use bounded::Bounded;
 use values::timestamp::Timestamp;
 
@@ -46,28 +47,29 @@ impl Content {
         if !is_sound(timestamp, reads, writes) {
             return None;
         }
-        Some(Content {
+        let stored = StoredContent {
             timestamp,
             reads: Bounded::new(reads)?,
             writes: Bounded::new(writes)?,
-        })
+        };
+        Some(Content { stored })
     }
 
     pub fn timestamp(&self) -> Timestamp
         ensures { result ≡ (body self.now).timestamp }
     {
-        self.timestamp
+        self.stored.timestamp
     }
 
     pub fn reads(&self) -> &[Read]
         ensures { result.now ≡ (body self.now).reads }
     {
-        self.reads.as_slice()
+        self.stored.reads.as_slice()
     }
 
     pub fn writes(&self) -> &[Write]
         ensures { result.now ≡ (body self.now).writes }
     {
-        self.writes.as_slice()
+        self.stored.writes.as_slice()
     }
 }

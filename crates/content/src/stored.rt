@@ -9,9 +9,9 @@ use values::timestamp::Timestamp;
 // A content as plain numbers, which only a content fills.
 #[derive(Clone, Copy)]
 pub struct StoredContent {
-    timestamp: Timestamp,
-    reads: Bounded<Read, 4>,
-    writes: Bounded<Write, 4>,
+    pub(crate) timestamp: Timestamp,
+    pub(crate) reads: Bounded<Read, 4>,
+    pub(crate) writes: Bounded<Write, 4>,
 }
 
 // The numbers are those of no content.
@@ -22,11 +22,7 @@ impl From<&Content> for StoredContent {
     ghost from_gives = { λ c s. s ≡ stored c.now };
 
     fn from(content: &Content) -> StoredContent {
-        StoredContent {
-            timestamp: content.timestamp,
-            reads: content.reads,
-            writes: content.writes,
-        }
+        content.stored
     }
 }
 
