@@ -1,12 +1,10 @@
 ghost use Rattle.std.specs.Prelude.{◌≡◌, Some};
-ghost use Rattle.std.specs.Option.{option_map};
 ghost use Rattle.layout.specs.Values.{given, part_given};
 ghost use Rattle.frame.specs.Messages.{value};
-ghost use Rattle.frame.specs.Rows.{part_held};
 ghost use Rattle.wording.specs.Wording.{listed_output, tail_text, text, refusal_text};
 
 use frame::message::Message;
-use frame::rows::ContentRows;
+use frame::rows::PlainMessage;
 use layout::fields::{ContentFields, Fields};
 use std::fmt;
 use values::refusal::Refusal;
@@ -75,22 +73,13 @@ impl fmt::Display for Line<Fields<'_>> {
     }
 }
 
-fn rows_of(message: &Message<'_>) -> Option<ContentRows>
-    ensures { option_map part_held result ≡ (value message.now).content }
-{
-    Some(message.parts()?.rows())
-}
-
 // A message's kind and fields.
 impl fmt::Display for Line<Message<'_>> {
     ghost output = { λ line. Some (text (value line.0)) };
 
     fn fmt<W: fmt::Write>(&self, f: &mut fmt::Formatter<W>) -> fmt::Result {
-        let header = self.0.header();
-        let rows = rows_of(&self.0);
-        let content = rows.as_ref().map(|rows| rows.fields());
-        let line = Line(Fields { header, content });
-        write!(f, "{line}")
+        let plain = PlainMessage::from(&self.0);
+        write!(f, "{}", Line(plain.fields()))
     }
 }
 
