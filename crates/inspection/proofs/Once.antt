@@ -1,5 +1,5 @@
 -- Of a line only one thing is said.
-use Rattle.std.proofs.Common.{◌≡◌, ℕ, List, length, Some, None, Option, sym, ap, ◌∙◌, subst, arith}
+use Rattle.std.proofs.Common.{◌≡◌, ℕ, List, length, Some, Option, sym, ap, ◌∙◌, subst}
 use Rattle.values.specs.declared.refusal.Refusal.{Refusal}
 use Rattle.field.specs.Layouts.{Breaks}
 use Rattle.field.proofs.Verdict.{one_verdict}

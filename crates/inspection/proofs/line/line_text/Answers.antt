@@ -1,4 +1,4 @@
-use Rattle.std.proofs.Common.{◌≡◌, ℕ, List, Ok, Err, Option, Result, sym, refl, ap, ◌∙◌, subst, String, IfOk, string_bytes}
+use Rattle.std.proofs.Common.{◌≡◌, ℕ, List, Ok, Err, Option, Result, sym, refl, ap, ◌∙◌, string_bytes}
 use Rattle.std.specs.Result.{is_err}
 use Rattle.frame.specs.Messages.{value}
 use Rattle.frame.specs.declared.message.Message.{Message}
@@ -28,17 +28,13 @@ said line o (Ok m) e u = framed (value m) (sym e ∙ u.0) u.1 refl refl
 said line o (Err NotHex) e u = not_hex (sym e ∙ u) refl refl
 said line o (Err (Refused x)) e u = broken u.0 x (sym e ∙ u.1.0) u.1.1 refl refl
 
--- the text of an arm
-got : {Z E : Type 0} (r : Result (String Z) E) (t : String Z) (words : List ℕ) → r ≡ Ok t → IfOk r (λ s. string_bytes s ≡ words) → string_bytes t ≡ words
-got {Z} r t words e h = subst (λ (x : Result (String Z) _). IfOk x (λ s. string_bytes s ≡ words)) e h
-
 pub returns : goal.returns
 returns c =
     let text = c.in_ok-text.text in
     let words : string_bytes text ≡ words_of c.message_in-message.result =
     elim c.match-message.branch [
-      | in-Ok w ↦ got w.to_string.result text _ (sym w.branch'-is ∙ c.in_ok-text.was) w.to_string.ensures.ok ∙ ap words_of (sym w.in-Ok.is)
-      | in-Err w ↦ got w.to_string-in-Err.result text _ (sym w.branch'-is ∙ c.in_ok-text.was) w.to_string-in-Err.ensures.ok ∙ ap words_of (sym w.in-Err.is)
+      | in-Ok w ↦ rw (sym w.branch'-is ∙ c.in_ok-text.was) at w.to_string.ensures.ok ∙ ap words_of (sym w.in-Ok.is)
+      | in-Err w ↦ rw (sym w.branch'-is ∙ c.in_ok-text.was) at w.to_string-in-Err.ensures.ok ∙ ap words_of (sym w.in-Err.is)
     ] in
     record {
       told = (is_err c.message_in-message.result, (rw words (said c.args.line.now _ _ (c.as_deref.ensures.value ∙ c.in_ok-bytes.ensures.value) c.message_in-message.ensures), c.count.ensures.after ∙ ap (counted c.args.tally.now) c.is_err.ensures.value));
