@@ -3,7 +3,7 @@ ghost use Rattle.std.specs.Option.{option_copied};
 ghost use Rattle.inspection.specs.Saying.{fault_words, Understood, Told, OneAnswer};
 ghost use Rattle.inspection.specs.declared.line.Fault.TheVariants.{Refused};
 
-use crate::hex::from_hex;
+use crate::digits::from_hex;
 use crate::tally::Tally;
 use frame::message::Message;
 use frame::reader::read_frame;
@@ -13,7 +13,7 @@ use values::refusal::Refusal;
 use wording::text::Line;
 
 // Why a line is refused.
-#[derive(Clone, Copy, Debug, PartialEq, Eq)]
+#[derive(Clone, Copy, Debug)]
 enum Fault {
     NotHex,
     Refused(Refusal),

@@ -4,7 +4,7 @@ use Rattle.std.specs.Vec.{with_items}
 use Rattle.std.proofs.lemmas.List.{with_items_is}
 use Rattle.inspection.proofs.Bytes.{all_read, read_as}
 use Rattle.inspection.specs.Spelling.{unhex}
-use Rattle.inspection.proofs.hex.from_hex.Goals as goal
+use Rattle.inspection.proofs.digits.from_hex.Goals as goal
 
 pub returns : goal.returns
 returns c =
