@@ -7,7 +7,7 @@ ghost use Rattle.bounded.specs.Lists.{Held, Pushed, Extended};
 use std::alloc::AllocError;
 use std::marker::Model;
 
-// What fills an unused place.
+// What fills an unused place. The library's Default says of its value how it is, and the model below has to name it.
 pub trait Blank: Copy {
     ghost blank: { Self };
 

@@ -101,6 +101,7 @@ fn has_room(length: usize, at: usize, n: usize) -> bool
 }
 
 // Writes the frame of the fields from the place on, and answers its length.
+// Buffer and place are two, since a caller has the buffer whole.
 pub fn write_fields(buf: &mut [u8], at: usize, fields: &Fields<'_>) -> Result<usize, Refusal>
     ensures { Writes (given fields.now) at buf.old result buf.new }
 {

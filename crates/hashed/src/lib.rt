@@ -69,6 +69,7 @@ impl Store for Hashed {
         Ok(())
     }
 
+    // Here the count of the rows, in a tree the length of the list: nothing to share but the subtraction.
     fn free(&self) -> usize {
         self.capacity.rows() - self.held
     }

@@ -17,7 +17,7 @@ pub struct KindRules {
     commit: (u32, u32),
 }
 
-// The letter of the kind, and the numbers between it and the content.
+// The letter of the kind, and the numbers between it and the content, plain ones: any may be written, and the rules refuse the wrong ones by their places.
 #[derive(Clone, Copy)]
 pub struct Header {
     pub kind: char,
@@ -33,7 +33,7 @@ const NONE: (u32, u32) = (0, 0);
 
 const ONE: (u32, u32) = (1, 1);
 
-// The rules by the letter of the kind.
+// The rules by the letter of the kind, as it stands in a frame.
 fn rules_of(kind: char) -> Option<KindRules>
     ensures { result ≡ rules kind }
 {

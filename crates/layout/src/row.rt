@@ -14,7 +14,7 @@ use field::{Field, check};
 use values::refusal::Refusal;
 use values::timestamp::Timestamp;
 
-// The byte at the place, 0 past the end.
+// The byte at the place, 0 past the end. Bytes and place are two parameters here and below: a struct would hold the slice alone.
 pub fn byte_at(bytes: &[u8], place: usize) -> u8
     ensures { result ≡ slice_index bytes.now place }
 {

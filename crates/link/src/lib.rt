@@ -21,7 +21,7 @@ pub trait Link {
 
     ghost takes: { Self → ℕ → Option (List ℕ) → Self → Type 0 };
 
-    // A frame of over LONGEST bytes is lost.
+    // A frame of over LONGEST bytes is lost. Address and frame are two, since a caller has the bytes alone.
     fn put(&mut self, to: u32, frame: &[u8])
         ensures { puts self.old to frame.now self.new };
 

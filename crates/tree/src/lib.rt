@@ -90,6 +90,7 @@ impl Store for Tree {
         Ok(())
     }
 
+    // Here the length of the list, in a hashed table the count of the rows: nothing to share but the subtraction.
     fn free(&self) -> usize {
         self.capacity.rows() - self.nodes.len()
     }

@@ -43,6 +43,7 @@ impl fmt::Display for UnknownNumber {
 
 impl Error for UnknownNumber {}
 
+// Votes and outcomes have a table each: a trait for both would be longer than the tables.
 impl From<Vote> for u32 {
     ghost from_gives = { λ vote number. number ≡ vote_number (Some vote) };
 
@@ -114,6 +115,7 @@ impl TryFrom<u32> for Outcome {
 }
 
 // The proposal of the highest view, in one view a commit; none for an empty list.
+// A function of its own, since it says the order of proposals and not that of any type.
 pub fn greatest_proposal(proposals: &[Proposal]) -> Option<Proposal>
     ensures { Greatest lower proposals.now result }
 {

@@ -44,6 +44,7 @@ impl Timestamp {
         self.transaction
     }
 
+    // The derived order, under the name that it has among timestamps.
     pub fn is_before(self, other: Timestamp) -> bool
         ensures { result ≡ before self other }
     {
@@ -74,6 +75,7 @@ impl fmt::Display for Timestamp {
 }
 
 // The latest of the timestamps; none for an empty list.
+// A function of its own, since it says the order of timestamps and not that of any type.
 pub fn latest(timestamps: &[Timestamp]) -> Option<Timestamp>
     ensures { Greatest before timestamps.now result }
 {
