@@ -11,6 +11,7 @@ use layout::bytes::rows_bytes;
 impl From<&Content> for EncodedContent {
     ghost from_gives = { λ content encoded. Encodes encoded (part_said (body content.now)) };
 
+    #[tactic(auto, using(crate::proofs::Encoding::encoding))]
     fn from(content: &Content) -> EncodedContent {
         EncodedContent {
             second: content.timestamp().second(),
