@@ -1,4 +1,4 @@
-ghost use Rattle.std.specs.Prelude.{◌≡◌, Some};
+ghost use Rattle.std.specs.Prelude.{Some};
 ghost use Rattle.layout.specs.Values.{given, part_given};
 ghost use Rattle.frame.specs.Messages.{value};
 ghost use Rattle.wording.specs.Wording.{listed_output, tail_text, text, refusal_text};
