@@ -1,3 +1,4 @@
+-- What a `?` hands on takes two lines in each such answer: a lemma would have to be told the goal, and be no shorter.
 use Rattle.std.proofs.Common.{◌*◌, get_or, drop, sym, ◌∙◌}
 use Rattle.std.proofs.lemmas.Result.{err_from_is_err_and}
 use Rattle.field.proofs.Faults.{before, same_breaks}

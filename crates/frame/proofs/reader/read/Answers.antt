@@ -1,3 +1,4 @@
+-- What a `?` hands on takes two lines in each such answer: a lemma would have to be told the goal, and be no shorter.
 use Rattle.std.proofs.Common.{◌≡◌, ℕ, List, [], ◌∷◌, ◌++◌, length, get_or, Option, sym, ap, ◌∙◌, subst, arith}
 use Rattle.std.proofs.lemmas.Result.{err_from_is_err_and}
 use Rattle.field.specs.declared.Field.{Field}
