@@ -10,6 +10,10 @@ pub pushed : {X : Type 0} (n : ℕ) (x : X) (xs xs' : List X) (r : Result (Unit 
 pushed n x xs xs' (Ok u) h p = p.1
 pushed n x xs xs' (Err y) h p = let e = p.0 in absurd (omega arith)
 
+pub has_room : {X : Type 0} (n : ℕ) (x : X) (xs xs' : List X) (r : Result (Unit {0}) X) → length xs < n → Pushed n x xs r xs' → is_ok r ≡ true
+has_room n x xs xs' (Ok u) h p = refl
+has_room n x xs xs' (Err y) h p = let e = p.0 in absurd (omega arith)
+
 module _ {X : Type 0} (n : ℕ) (ys xs xs' : List X) where
   pub extended : (r : Result (Unit {0}) Full) → is_ok r ≡ true → Extended n ys xs r xs' → (length xs + length ys ≤ n) × (xs' ≡ xs ++ ys)
   extended (Ok u) e p = p

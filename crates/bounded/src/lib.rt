@@ -7,7 +7,7 @@ ghost use Rattle.bounded.specs.Lists.{Held, Pushed, Extended};
 use std::alloc::AllocError;
 use std::marker::Model;
 
-// What fills an unused place. The library's Default says of its value how it is, and the model below has to name it.
+// What fills an unused place. The model below has to name it, and the library's Default only says what holds of it.
 pub trait Blank: Copy {
     ghost blank: { Self };
 
@@ -27,7 +27,7 @@ impl Blank for u8 {
 #[derive(Clone, Copy, Debug)]
 pub struct Full;
 
-// At most N items, copied freely. Unused places are blank, so that equal lists are equal values.
+// At most N items, copied freely, which the kit's ArrayVec is not. Unused places are blank, so that equal lists are equal values.
 #[derive(PartialEq, Eq)]
 pub struct Bounded<T: Blank, const N: usize> {
     places: [T; N],
@@ -114,7 +114,7 @@ impl<T: Blank, const N: usize> Bounded<T, N> {
             return Err(Full);
         }
         for item in items {
-            let _ = self.push(*item);
+            self.push(*item).unwrap();
         }
         Ok(())
     }

@@ -17,21 +17,22 @@ unlike_met f k (suc n) j h e = go (cases_order j n) (λ l. unlike_met f k n j l 
     go (inr (inl l)) g = and_right (not (eqb (f n) k)) (unlike f k n) (g l)
     go (inr (inr l)) g = absurd (omega arith)
 
-pub unlike_more : (f : ℕ → ℕ) (k j : ℕ) → unlike f k j ≡ true → (f j ≡ k → ⊥) → unlike f k (j + 1) ≡ true
-unlike_more f k j h g = rw add-one (and_from _ _ (not_from_false _ (ne_eqb _ _ g)) h)
-
--- two equal ones
-pub differ_met : (f : ℕ → ℕ) (n i j : ℕ) → j < i → i < n → f j ≡ f i → differ f n ≡ false
-differ_met f zero i j h l e = absurd (omega arith)
-differ_met f (suc n) i j h l e = go (cases_order i n) (λ m. differ_met f n i j h m e)
-  where
-    go : (i ≡ n) ⊎ ((i < n) ⊎ (n < i)) → (i < n → differ f n ≡ false) → (unlike f (f n) n && differ f n) ≡ false
-    go (inl m) g = and_left (unlike f (f n) n) (differ f n) (unlike_met f (f n) n j (omega arith) (e ∙ ap f m))
-    go (inr (inl m)) g = and_right (unlike f (f n) n) (differ f n) (g m)
-    go (inr (inr m)) g = absurd (omega arith)
-
 pub differ_more : (f : ℕ → ℕ) (i j : ℕ) → j ≡ i → unlike f (f i) j ≡ true → differ f i ≡ true → differ f (i + 1) ≡ true
 differ_more f i j e h g = rw add-one (and_from _ _ (subst (λ (k : ℕ). unlike f (f i) k ≡ true) e h) g)
+
+-- one repeated key is enough
+pub differ_not : (f : ℕ → ℕ) (i n : ℕ) → i < n → unlike f (f i) i ≡ false → differ f n ≡ false
+differ_not f i zero h e = absurd (omega arith)
+differ_not f i (suc n) h e = go (cases_order i n) (λ l. differ_not f i n l e)
+  where
+    go : (i ≡ n) ⊎ ((i < n) ⊎ (n < i)) → (i < n → differ f n ≡ false) → (unlike f (f n) n && differ f n) ≡ false
+    go (inl m) g = and_left (unlike f (f n) n) (differ f n) (subst (λ (k : ℕ). unlike f (f k) k ≡ false) m e)
+    go (inr (inl l)) g = and_right (unlike f (f n) n) (differ f n) (g l)
+    go (inr (inr l)) g = absurd (omega arith)
+
+-- two equal ones
+differ_met : (f : ℕ → ℕ) (n i j : ℕ) → j < i → i < n → f j ≡ f i → differ f n ≡ false
+differ_met f n i j h l e = differ_not f i n l (unlike_met f (f i) i j h e)
 
 -- the test finds just what differs
 pub differ_apart : (f : ℕ → ℕ) (n : ℕ) → differ f n ≡ true → Apart f n
@@ -65,16 +66,6 @@ pub has_earlier : {X : Type 0} (key : X → ℕ) (blank : X) (xs : List X) (i : 
     → b ≡ list_any (λ y. eqb (key y) k) (take i xs) → b ≡ not (unlike (keys_of key blank xs) (keys_of key blank xs i) i)
 has_earlier key blank xs i x k b h e q l =
     l ∙ any_unlike key blank xs k i (omega arith) ∙ ap (λ (m : ℕ). not (unlike (keys_of key blank xs) m i)) (q ∙ ap key (get_or_read xs i x h e blank))
-
--- one repeated key is enough
-pub differ_not : (f : ℕ → ℕ) (i n : ℕ) → i < n → unlike f (f i) i ≡ false → differ f n ≡ false
-differ_not f i zero h e = absurd (omega arith)
-differ_not f i (suc n) h e = go (cases_order i n) (λ l. differ_not f i n l e)
-  where
-    go : (i ≡ n) ⊎ ((i < n) ⊎ (n < i)) → (i < n → differ f n ≡ false) → (unlike f (f n) n && differ f n) ≡ false
-    go (inl m) g = and_left (unlike f (f n) n) (differ f n) (subst (λ (k : ℕ). unlike f (f k) k ≡ false) m e)
-    go (inr (inl l)) g = and_right (unlike f (f n) n) (differ f n) (g l)
-    go (inr (inr l)) g = absurd (omega arith)
 
 -- a read that no transaction at t can have made
 pub before_met : (t : Timestamp) (rs : List Read) (n i : ℕ) → i < n → readable t (get_or rs i no_read) ≡ false → reads_before t rs n ≡ false

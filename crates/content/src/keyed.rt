@@ -45,7 +45,8 @@ impl Keyed for Write {
     ghost key = { λ w. w.key };
 
     fn key(&self) -> u32 {
-        self.key
+        let Write { key, .. } = *self;
+        key
     }
 }
 

@@ -30,10 +30,11 @@ fn counts_fit(reads: usize, writes: usize) -> bool
 fn is_sound(timestamp: Timestamp, reads: &[Read], writes: &[Write]) -> bool
     ensures { result ≡ sound (body_of timestamp reads.now writes.now) }
 {
-    if !timestamp.names_transaction() || !counts_fit(reads.len(), writes.len()) {
-        return false;
-    }
-    keys_differ(reads) && keys_differ(writes) && all_readable(timestamp, reads)
+    timestamp.names_transaction()
+        && counts_fit(reads.len(), writes.len())
+        && keys_differ(reads)
+        && keys_differ(writes)
+        && all_readable(timestamp, reads)
 }
 
 impl Content {

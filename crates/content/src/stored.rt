@@ -15,7 +15,7 @@ pub struct StoredContent {
 }
 
 // The numbers are those of no content.
-#[derive(Clone, Copy)]
+#[derive(Clone, Copy, Debug)]
 pub struct Unsound;
 
 impl From<&Content> for StoredContent {

@@ -116,9 +116,9 @@ impl<'a> Message<'a> {
     {
         match self {
             Message::Prepare { content, .. } => Some(*content),
-            Message::Accept { content, .. } => *content,
-            Message::Decide { content, .. } => *content,
-            Message::Report { content, .. } => *content,
+            Message::Accept { content, .. }
+            | Message::Decide { content, .. }
+            | Message::Report { content, .. } => *content,
             _ => None,
         }
     }

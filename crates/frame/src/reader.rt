@@ -49,7 +49,10 @@ fn counts_at(bytes: &[u8]) -> (usize, usize)
     ensures reads { result.0 ≡ slice_index bytes.now 17 }
     ensures writes { result.1 ≡ slice_index bytes.now 18 }
 {
-    (byte_at(bytes, 17) as usize, byte_at(bytes, 18) as usize)
+    (
+        usize::from(byte_at(bytes, 17)),
+        usize::from(byte_at(bytes, 18)),
+    )
 }
 
 // Checks the content, of which the flag says that it follows.

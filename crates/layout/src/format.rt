@@ -29,21 +29,21 @@ pub struct Header {
     pub accepted_view: u32,
 }
 
-const NONE: (u32, u32) = (0, 0);
+const ZERO: (u32, u32) = (0, 0);
 
 const ONE: (u32, u32) = (1, 1);
 
-// The rules by the letter of the kind, as it stands in a frame.
+// The rules by the letter of the kind: a kind is a letter wherever it goes, and is matched against letters here alone, as ARCHITECTURE.md asks.
 fn rules_of(kind: char) -> Option<KindRules>
     ensures { result ≡ rules kind }
 {
     let (view, code, accepted, plain, commit) = match kind {
-        'P' => (NONE, NONE, NONE, ONE, ONE),
-        'V' => (NONE, (1, 2), NONE, NONE, NONE),
-        'A' => ((0, 255), (1, 2), NONE, NONE, ONE),
-        'B' => ((0, 255), NONE, NONE, NONE, NONE),
-        'D' => (NONE, (1, 2), NONE, NONE, ONE),
-        'C' => ((1, 255), NONE, NONE, NONE, NONE),
+        'P' => (ZERO, ZERO, ZERO, ONE, ONE),
+        'V' => (ZERO, (1, 2), ZERO, ZERO, ZERO),
+        'A' => ((0, 255), (1, 2), ZERO, ZERO, ONE),
+        'B' => ((0, 255), ZERO, ZERO, ZERO, ZERO),
+        'D' => (ZERO, (1, 2), ZERO, ZERO, ONE),
+        'C' => ((1, 255), ZERO, ZERO, ZERO, ZERO),
         'R' => ((1, 255), (0, 2), (0, 2), (0, 1), ONE),
         _ => return None,
     };
@@ -62,7 +62,7 @@ pub fn header_fields(h: &Header, content: u32) -> [Field; 8]
 {
     let known = rules_of(h.kind);
     let rules = known.unwrap_or_default();
-    let accepted_view_limits = if h.accepted == 0 { NONE } else { (0, h.view) };
+    let accepted_view_limits = if h.accepted == 0 { ZERO } else { (0, h.view) };
     let content_limits = if h.code == 2 || h.accepted == 2 {
         rules.commit
     } else {

@@ -21,11 +21,11 @@ pub fn byte_at(bytes: &[u8], place: usize) -> u8
     bytes.get(place).copied().unwrap_or(0)
 }
 
-// The number in the four bytes from the place on, of which those past the end count as 0.
+// The number in the four bytes from the place on, of which those past the end count as 0. With a place of eight bits no sum is too large.
 pub fn number_at(bytes: &[u8], place: u8) -> u32
     ensures { result ≡ number bytes.now place }
 {
-    let place = place as usize;
+    let place = usize::from(place);
     u32::from_be_bytes([
         byte_at(bytes, place),
         byte_at(bytes, place + 1),
@@ -151,7 +151,7 @@ pub fn rows_in<T: Row>(bytes: &[u8], count: usize) -> Bounded<T, 4>
     let mut rows = Bounded::empty();
     let mut rest = bytes;
     for _ in 0..count.min(4) {
-        let _ = rows.push(T::read(rest));
+        rows.push(T::read(rest)).unwrap();
         rest = tail_at(rest, 4 + T::REST);
     }
     rows

@@ -1,8 +1,13 @@
 use Rattle.std.proofs.Common.{◌≡◌, rules, ◌<◌, length, ap, ◌∙◌, arith}
-use Rattle.bounded.proofs.Room.{pushed}
+use Rattle.bounded.proofs.Room.{pushed, has_room}
 use Rattle.layout.proofs.Rows.{length_rows}
 use Rattle.layout.proofs.Tables.{row_next, row_passed}
 use Rattle.layout.proofs.row.rows_in.Goals as goal
+
+pub unwrap-requires : goal.unwrap-requires
+unwrap-requires g c =
+    let n = ap length c.loop.invariant.0 ∙ length_rows g.T.Row.layout c.loop.counter c.args.bytes.now in
+    has_room 4 c.read.result c.loop.rows c.push.new.self c.push.result (omega arith) c.push.ensures
 
 pub loop-preserved : goal.loop-preserved
 loop-preserved g c =
