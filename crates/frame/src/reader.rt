@@ -1,6 +1,6 @@
 // Reading a frame.
 
-ghost use Rattle.std.specs.Prelude.{◌≡◌, ◌+◌, ◌*◌, ◌≤◌, ◌++◌, length, drop, Some, slice_index};
+ghost use Rattle.std.specs.Prelude.{◌≡◌, ℕ, ◌+◌, ◌*◌, ◌≤◌, ◌++◌, List, length, drop, Some, slice_index};
 ghost use Rattle.field.specs.Layouts.{Checked, Checking};
 ghost use Rattle.layout.specs.Values.{flag, size};
 ghost use Rattle.layout.specs.Format.{header_fields, part_fields};
@@ -28,19 +28,18 @@ fn read_mark(bytes: &[u8]) -> Result<&[u8], Refusal>
     }
 }
 
-// The kind, and the numbers at the places of the header behind it.
-fn header_of(kind: char, bytes: &[u8]) -> Header
-    requires { kind ≡ slice_index bytes.now 5 }
-    ensures { result ≡ header_in bytes.now }
+// The header, which stands behind the mark and the version.
+fn header_of(rest: &[u8]) -> Header
+    ensures { (b : List ℕ) → rest.now ≡ drop 5 b → result ≡ header_in b }
 {
     Header {
-        kind,
-        transaction: u32::from(byte_at(bytes, 6)),
-        sender: u32::from(byte_at(bytes, 7)),
-        view: u32::from(byte_at(bytes, 8)),
-        code: u32::from(byte_at(bytes, 9)),
-        accepted: u32::from(byte_at(bytes, 10)),
-        accepted_view: u32::from(byte_at(bytes, 11)),
+        kind: char::from(byte_at(rest, 0)),
+        transaction: u32::from(byte_at(rest, 1)),
+        sender: u32::from(byte_at(rest, 2)),
+        view: u32::from(byte_at(rest, 3)),
+        code: u32::from(byte_at(rest, 4)),
+        accepted: u32::from(byte_at(rest, 5)),
+        accepted_view: u32::from(byte_at(rest, 6)),
     }
 }
 
@@ -95,7 +94,7 @@ fn read_header(bytes: &[u8]) -> Result<Header, Refusal>
         Checking (length b) (mark_fields b ++ header_fields (header_in b) (slice_index b 12)) (λ h. h ≡ header_in b) result }
 {
     let rest = read_mark(bytes)?;
-    let header = header_of(char::from(byte_at(rest, 0)), bytes);
+    let header = header_of(rest);
     let flag = u32::from(byte_at(bytes, 12));
     check(&header_fields(&header, flag), bytes.len())?;
     Ok(header)
