@@ -14,7 +14,6 @@ use layout::fields::Fields;
 use layout::format::header_fields;
 use layout::row::check_content;
 use values::refusal::Refusal;
-use values::timestamp::Timestamp;
 
 // The length of the longest frame.
 const LONGEST: usize = 87;
@@ -31,11 +30,8 @@ fn check_fields(fields: &Fields<'_>) -> Result<(), Refusal>
     ensures { Checked 87 (value_fields (given fields.now)) result }
 {
     check(&header_fields(&fields.header, fields.flag()), LONGEST)?;
-    match fields.content {
-        Some(content) => {
-            let timestamp = Timestamp::new(content.second, fields.header.transaction);
-            check_content(timestamp, content.reads, content.writes, LONGEST)
-        }
+    match &fields.content {
+        Some(content) => check_content(content, fields.header.transaction, LONGEST),
         None => Ok(()),
     }
 }
@@ -86,8 +82,8 @@ impl<'a> LawfulFields<'a> {
         ensures { part.new ≡ frame (given self.now.fields) }
     {
         part[..13].copy_from_slice(&self.head());
-        if let Some(content) = self.fields.content {
-            let bytes = content_bytes(content.second, content.reads, content.writes).unwrap();
+        if let Some(content) = &self.fields.content {
+            let bytes = content_bytes(content).unwrap();
             part[13..].copy_from_slice(bytes.as_slice());
         }
     }

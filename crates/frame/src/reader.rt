@@ -11,11 +11,11 @@ use crate::message::{Message, Parts};
 use bounded::Bounded;
 use content::rows::{Read, Write};
 use field::{Field, check};
+use layout::fields::ContentFields;
 use layout::format::{Header, count_fields, header_fields};
 use layout::row::{byte_at, check_content, number_at, rows_in, tail_at};
 use values::decision::{Outcome, Proposal, Vote};
 use values::refusal::Refusal;
-use values::timestamp::Timestamp;
 
 // The mark and the version; what follows them is handed on.
 fn read_mark(bytes: &[u8]) -> Result<&[u8], Refusal>
@@ -60,16 +60,15 @@ fn check_content_at(bytes: &[u8]) -> Result<(), Refusal>
 {
     let (reads, writes) = counts_at(bytes);
     check(&count_fields(reads, writes), bytes.len())?;
-    let timestamp = Timestamp::new(number_at(bytes, 13), u32::from(byte_at(bytes, 6)));
     let rows = tail_at(bytes, 19);
     let read_rows: Bounded<Read, 4> = rows_in(rows, reads);
     let write_rows: Bounded<Write, 4> = rows_in(tail_at(rows, 9 * reads), writes);
-    check_content(
-        timestamp,
-        read_rows.as_slice(),
-        write_rows.as_slice(),
-        bytes.len(),
-    )
+    let content = ContentFields {
+        second: number_at(bytes, 13),
+        reads: read_rows.as_slice(),
+        writes: write_rows.as_slice(),
+    };
+    check_content(&content, u32::from(byte_at(bytes, 6)), bytes.len())
 }
 
 // The parts of the bytes that hold a content.
