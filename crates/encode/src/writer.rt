@@ -5,6 +5,7 @@ ghost use Rattle.field.specs.Layouts.{Passes, Checked, Checking};
 ghost use Rattle.layout.specs.Values.{given};
 ghost use Rattle.layout.specs.Format.{value_fields};
 ghost use Rattle.layout.specs.Frames.{frame};
+ghost use Rattle.encode.specs.declared.writer.TheConstants.{LONGEST};
 ghost use Rattle.encode.specs.Once.{passes_once};
 ghost use Rattle.encode.specs.Writes.{Writes};
 
@@ -22,12 +23,12 @@ const LONGEST: usize = 87;
 #[derive(Clone, Copy)]
 struct LawfulFields<'a> {
     fields: Fields<'a>,
-    ghost lawful: { Passes 87 (value_fields (given fields)) } by { passes_once 87 (value_fields (given fields)) },
+    ghost lawful: { Passes LONGEST (value_fields (given fields)) } by { passes_once LONGEST (value_fields (given fields)) },
 }
 
 // Checks every number in the order of the frame.
 fn check_fields(fields: &Fields<'_>) -> Result<(), Refusal>
-    ensures { Checked 87 (value_fields (given fields.now)) result }
+    ensures { Checked LONGEST (value_fields (given fields.now)) result }
 {
     check(&header_fields(&fields.header, fields.flag()), LONGEST)?;
     match &fields.content {
@@ -38,7 +39,7 @@ fn check_fields(fields: &Fields<'_>) -> Result<(), Refusal>
 
 impl<'a> LawfulFields<'a> {
     fn new(fields: Fields<'a>) -> Result<LawfulFields<'a>, Refusal>
-        ensures { Checking 87 (value_fields (given fields.entry)) (λ l. l.fields ≡ fields.entry) result }
+        ensures { Checking LONGEST (value_fields (given fields.entry)) (λ l. l.fields ≡ fields.entry) result }
     {
         check_fields(&fields)?;
         Ok(LawfulFields { fields })
