@@ -1,11 +1,11 @@
 // Reads and writes as the rows of a frame: what they share is written once.
 
-ghost use Rattle.std.specs.Prelude.{◌≡◌, ℕ, ◌+◌, ◌*◌, ◌<◌, ◌≤◌, min, List, length, take, drop, Some, slice_index, refl};
+ghost use Rattle.std.specs.Prelude.{◌≡◌, ℕ, ◌+◌, ◌*◌, ◌<◌, ◌≤◌, ◌++◌, ◌∷◌, min, List, length, take, drop, Some, slice_index, refl};
 ghost use Rattle.std.proofs.Common.{arith};
 ghost use Rattle.field.specs.Layouts.{Checked};
 ghost use Rattle.layout.specs.Numbers.{number, Layout, width, reading, writing, rows_in};
 ghost use Rattle.layout.specs.Values.{part_given};
-ghost use Rattle.layout.specs.Format.{next_fields, table_fields, part_fields};
+ghost use Rattle.layout.specs.Format.{row_fields, table_fields, part_fields};
 
 use crate::fields::ContentFields;
 use crate::format::count_fields;
@@ -159,11 +159,11 @@ pub fn rows_in<T: Row>(bytes: &[u8], count: usize) -> Bounded<T, 4>
     rows
 }
 
-// The fields of a row behind the earlier ones, of which the first begins at base.
+// The fields of a row behind the earlier ones, of which the first begins at base, whatever rows follow.
 fn row_fields<T: Row>(earlier: &[T], row: &T, base: usize, timestamp: Timestamp) -> [Field; 2]
     requires few { length earlier.now < 4 }
     requires near { base ≤ 55 }
-    ensures { result ≡ next_fields T.Row.layout timestamp base earlier.now row.now }
+    ensures { (rest : List T) → result ≡ row_fields T.Row.layout timestamp base (earlier.now ++ row.now ∷ rest) (length earlier.now) }
 {
     let place = base + (4 + T::REST) * earlier.len();
     [
