@@ -47,7 +47,7 @@ fn run<S: Store + Drop, K: Fn(u32) -> u32>(
     Ok(())
 }
 
-// The run on a store of each kind, and on either.
+// The run on a store of each kind, and on either: four lines, since no closure is generic over the store.
 pub(crate) fn all_run<K: Fn(u32) -> u32 + Drop>(
     rt: &impl Abort,
     alloc: Global,

@@ -1,5 +1,6 @@
 -- That a search tree counts the keys that it holds: the descent for a key has one end, so no two nodes have one key.
 -- It stands here because the impl cites it; there is nothing in it that a reader has to believe.
+-- Its list of keys goes over nodes, that of a hashed table over places with holes: one for both would need the place of each entry.
 use Rattle.std.specs.Prelude.{◌≡◌, ℕ, suc, ◌<◌, cond, ◌≢◌, ◌⊎◌, List, [], ◌∷◌, length, is_some, Some, None, refl}
 use Rattle.std.proofs.Common.{sym, ap, ◌∙◌, subst, inl, inr, arith}
 use Rattle.std.proofs.Math.Logic.{∥∥₁_elim}
