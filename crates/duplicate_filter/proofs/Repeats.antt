@@ -19,10 +19,10 @@ pub seen_decides : (f : Frame) (rs : List Frame) → Decides (seen f rs) (Among 
 seen_decides f [] = (λ t. absurd cc, λ m. absurd m)
 seen_decides f (x ∷ rs) = Decides-or (same_frame f x) (seen f rs) (same_decides f x) (seen_decides f rs)
 
--- what `contains` answers of packets
-pub seen_from_contains : (xs : List Packet) (x : Packet) → list_any (λ y. equal y x) xs ≡ seen (frame_of x) (map frame_of xs)
-seen_from_contains [] x = refl
-seen_from_contains (y ∷ xs) x = λ i. one i || seen_from_contains xs x i
+-- what `any` answers of packets
+pub seen_from_any : (xs : List Packet) (x : Packet) → list_any (λ y. equal y x) xs ≡ seen (frame_of x) (map frame_of xs)
+seen_from_any [] x = refl
+seen_from_any (y ∷ xs) x = λ i. one i || seen_from_any xs x i
   where
     one : equal y x ≡ same_frame (frame_of x) (frame_of y)
     one = same_from_decides _ _ (same y x) (Decides-like _ (λ e. sym e) (λ e. sym e) (same_decides (frame_of x) (frame_of y)))

@@ -13,7 +13,7 @@ use Rattle.duplicate_filter.specs.declared.filter.DuplicateFilter.{DuplicateFilt
 use Rattle.duplicate_filter.specs.Repeats.{seen, last_eight, filtered}
 use Rattle.duplicate_filter.specs.Means.{recent_of, filter_waiting, FilterPuts, FilterTakes}
 use Rattle.duplicate_filter.specs.Laws.{Passed, Swallowed, OneTake, FilterLaws}
-use Rattle.duplicate_filter.proofs.Repeats.{seen_decides, seen_from_contains, last_push}
+use Rattle.duplicate_filter.proofs.Repeats.{seen_decides, seen_from_any, last_push}
 
 -- an answer and the last eight after it
 abbrev Outcome : Type 0
@@ -25,7 +25,7 @@ module _ (xs : List Packet) (a : ℕ) (b : List ℕ) (r : Option Packet) (x : Pa
   framed = (subst (Packed a b) is p).1
 
   sought : (t : Bool) → t ≡ list_any (λ y. equal y x) xs → seen (a, b) (map frame_of xs) ≡ t
-  sought t e = ap (λ f. seen f (map frame_of xs)) (sym framed) ∙ sym (e ∙ seen_from_contains xs x)
+  sought t e = ap (λ f. seen f (map frame_of xs)) (sym framed) ∙ sym (e ∙ seen_from_any xs x)
 
   pub repeats : true ≡ list_any (λ y. equal y x) xs → ◌≡◌ {A = Outcome} (None, map frame_of xs) (filtered (map frame_of xs) a (Some b))
   repeats e = let t : seen (a, b) (map frame_of xs) ≡ true = sought true e in rw t refl

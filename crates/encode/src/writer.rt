@@ -5,6 +5,7 @@ ghost use Rattle.field.specs.Layouts.{Passes, Checked, Checking};
 ghost use Rattle.layout.specs.Values.{given};
 ghost use Rattle.layout.specs.Format.{value_fields};
 ghost use Rattle.layout.specs.Frames.{frame};
+ghost use Rattle.encode.specs.declared.writer.TheConstants.{LONGEST};
 ghost use Rattle.encode.specs.Once.{passes_once};
 ghost use Rattle.encode.specs.Writes.{Writes};
 
@@ -14,7 +15,6 @@ use layout::fields::Fields;
 use layout::format::header_fields;
 use layout::row::check_content;
 use values::refusal::Refusal;
-use values::timestamp::Timestamp;
 
 // The length of the longest frame.
 const LONGEST: usize = 87;
@@ -23,26 +23,23 @@ const LONGEST: usize = 87;
 #[derive(Clone, Copy)]
 struct LawfulFields<'a> {
     fields: Fields<'a>,
-    ghost lawful: { Passes 87 (value_fields (given fields)) } by { passes_once 87 (value_fields (given fields)) },
+    ghost lawful: { Passes LONGEST (value_fields (given fields)) } by { passes_once LONGEST (value_fields (given fields)) },
 }
 
 // Checks every number in the order of the frame.
 fn check_fields(fields: &Fields<'_>) -> Result<(), Refusal>
-    ensures { Checked 87 (value_fields (given fields.now)) result }
+    ensures { Checked LONGEST (value_fields (given fields.now)) result }
 {
     check(&header_fields(&fields.header, fields.flag()), LONGEST)?;
-    match fields.content {
-        Some(content) => {
-            let timestamp = Timestamp::new(content.second, fields.header.transaction);
-            check_content(timestamp, content.reads, content.writes, LONGEST)
-        }
+    match &fields.content {
+        Some(content) => check_content(content, fields.header.transaction, LONGEST),
         None => Ok(()),
     }
 }
 
 impl<'a> LawfulFields<'a> {
     fn new(fields: Fields<'a>) -> Result<LawfulFields<'a>, Refusal>
-        ensures { Checking 87 (value_fields (given fields.entry)) (λ l. l.fields ≡ fields.entry) result }
+        ensures { Checking LONGEST (value_fields (given fields.entry)) (λ l. l.fields ≡ fields.entry) result }
     {
         check_fields(&fields)?;
         Ok(LawfulFields { fields })
@@ -86,8 +83,8 @@ impl<'a> LawfulFields<'a> {
         ensures { part.new ≡ frame (given self.now.fields) }
     {
         part[..13].copy_from_slice(&self.head());
-        if let Some(content) = self.fields.content {
-            let bytes = content_bytes(content.second, content.reads, content.writes).unwrap();
+        if let Some(content) = &self.fields.content {
+            let bytes = content_bytes(content).unwrap();
             part[13..].copy_from_slice(bytes.as_slice());
         }
     }

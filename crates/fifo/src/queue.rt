@@ -7,7 +7,7 @@ use link::packet::Packet;
 pub(crate) const MOST: usize = 64;
 
 // The frames that wait, the oldest first; the yard's line. The memory for all is there from the start, so that a put cannot fail.
-// A plain Vec: a type with this room, for all links that keep frames, would repeat the methods of Vec.
+// A plain Vec: a type of our own would repeat its methods; the kit's ArrayVec would need a default packet, and leave `new` nothing to allocate.
 #[derive(Drop)]
 pub struct Fifo {
     pub(crate) frames: Vec<Packet>,

@@ -11,10 +11,10 @@ use Rattle.content.proofs.Whole.{sound_tested}
 use Rattle.layout.specs.Numbers.{laid, reading, writing}
 use Rattle.layout.proofs.Rows.{exact_read, exact_write, length_laid}
 
-pub few_reads : (c : Content) → length c.reads ≤ 4
+pub few_reads : (c : Content) → length c.stored.reads ≤ 4
 few_reads c = (sound_tested.only (body c) c.ok).few_reads
 
-pub few_writes : (c : Content) → length c.writes ≤ 4
+pub few_writes : (c : Content) → length c.stored.writes ≤ 4
 few_writes c = (sound_tested.only (body c) c.ok).few_writes
 
 pub reads_fit : (rs : List Read) (o : Option (List ℕ)) → Held 36 (laid reading rs) o → length rs ≤ 4 → IsSome o

@@ -123,31 +123,47 @@ impl<'a> Message<'a> {
         }
     }
 
-    fn transaction(&self) -> u32
-        ensures { result ≡ (header self.now).transaction }
+    // The transaction and the sender.
+    fn parties(&self) -> (u32, u32)
+        ensures transaction { result.0 ≡ (header self.now).transaction }
+        ensures sender { result.1 ≡ (header self.now).sender }
     {
         match self {
-            Message::Prepare { transaction, .. }
-            | Message::Voted { transaction, .. }
-            | Message::Accept { transaction, .. }
-            | Message::Accepted { transaction, .. }
-            | Message::Decide { transaction, .. }
-            | Message::ChangeView { transaction, .. }
-            | Message::Report { transaction, .. } => *transaction,
-        }
-    }
-
-    fn sender(&self) -> u32
-        ensures { result ≡ (header self.now).sender }
-    {
-        match self {
-            Message::Prepare { sender, .. }
-            | Message::Voted { sender, .. }
-            | Message::Accept { sender, .. }
-            | Message::Accepted { sender, .. }
-            | Message::Decide { sender, .. }
-            | Message::ChangeView { sender, .. }
-            | Message::Report { sender, .. } => *sender,
+            Message::Prepare {
+                transaction,
+                sender,
+                ..
+            }
+            | Message::Voted {
+                transaction,
+                sender,
+                ..
+            }
+            | Message::Accept {
+                transaction,
+                sender,
+                ..
+            }
+            | Message::Accepted {
+                transaction,
+                sender,
+                ..
+            }
+            | Message::Decide {
+                transaction,
+                sender,
+                ..
+            }
+            | Message::ChangeView {
+                transaction,
+                sender,
+                ..
+            }
+            | Message::Report {
+                transaction,
+                sender,
+                ..
+            } => (*transaction, *sender),
         }
     }
 
@@ -191,11 +207,12 @@ impl<'a> Message<'a> {
     pub fn header(&self) -> Header
         ensures { result ≡ header self.now }
     {
+        let (transaction, sender) = self.parties();
         let accepted = self.accepted();
         Header {
             kind: self.kind(),
-            transaction: self.transaction(),
-            sender: self.sender(),
+            transaction,
+            sender,
             view: self.view(),
             code: self.code(),
             accepted: accepted.map_or(0, |proposal| u32::from(proposal.outcome)),

@@ -1,6 +1,6 @@
 // Reading a frame.
 
-ghost use Rattle.std.specs.Prelude.{◌≡◌, ◌+◌, ◌*◌, ◌≤◌, ◌++◌, length, drop, Some, slice_index};
+ghost use Rattle.std.specs.Prelude.{◌≡◌, ℕ, ◌+◌, ◌*◌, ◌≤◌, ◌++◌, List, length, drop, Some, slice_index};
 ghost use Rattle.field.specs.Layouts.{Checked, Checking};
 ghost use Rattle.layout.specs.Values.{flag, size};
 ghost use Rattle.layout.specs.Format.{header_fields, part_fields};
@@ -11,11 +11,11 @@ use crate::message::{Message, Parts};
 use bounded::Bounded;
 use content::rows::{Read, Write};
 use field::{Field, check};
+use layout::fields::ContentFields;
 use layout::format::{Header, count_fields, header_fields};
 use layout::row::{byte_at, check_content, number_at, rows_in, tail_at};
 use values::decision::{Outcome, Proposal, Vote};
 use values::refusal::Refusal;
-use values::timestamp::Timestamp;
 
 // The mark and the version; what follows them is handed on.
 fn read_mark(bytes: &[u8]) -> Result<&[u8], Refusal>
@@ -28,19 +28,18 @@ fn read_mark(bytes: &[u8]) -> Result<&[u8], Refusal>
     }
 }
 
-// The kind, and the numbers at the places of the header behind it.
-fn header_of(kind: char, bytes: &[u8]) -> Header
-    requires { kind ≡ slice_index bytes.now 5 }
-    ensures { result ≡ header_in bytes.now }
+// The header, which stands behind the mark and the version.
+fn header_of(rest: &[u8]) -> Header
+    ensures { (b : List ℕ) → rest.now ≡ drop 5 b → result ≡ header_in b }
 {
     Header {
-        kind,
-        transaction: u32::from(byte_at(bytes, 6)),
-        sender: u32::from(byte_at(bytes, 7)),
-        view: u32::from(byte_at(bytes, 8)),
-        code: u32::from(byte_at(bytes, 9)),
-        accepted: u32::from(byte_at(bytes, 10)),
-        accepted_view: u32::from(byte_at(bytes, 11)),
+        kind: char::from(byte_at(rest, 0)),
+        transaction: u32::from(byte_at(rest, 1)),
+        sender: u32::from(byte_at(rest, 2)),
+        view: u32::from(byte_at(rest, 3)),
+        code: u32::from(byte_at(rest, 4)),
+        accepted: u32::from(byte_at(rest, 5)),
+        accepted_view: u32::from(byte_at(rest, 6)),
     }
 }
 
@@ -61,16 +60,15 @@ fn check_content_at(bytes: &[u8]) -> Result<(), Refusal>
 {
     let (reads, writes) = counts_at(bytes);
     check(&count_fields(reads, writes), bytes.len())?;
-    let timestamp = Timestamp::new(number_at(bytes, 13), u32::from(byte_at(bytes, 6)));
     let rows = tail_at(bytes, 19);
     let read_rows: Bounded<Read, 4> = rows_in(rows, reads);
     let write_rows: Bounded<Write, 4> = rows_in(tail_at(rows, 9 * reads), writes);
-    check_content(
-        timestamp,
-        read_rows.as_slice(),
-        write_rows.as_slice(),
-        bytes.len(),
-    )
+    let content = ContentFields {
+        second: number_at(bytes, 13),
+        reads: read_rows.as_slice(),
+        writes: write_rows.as_slice(),
+    };
+    check_content(&content, u32::from(byte_at(bytes, 6)), bytes.len())
 }
 
 // The parts of the bytes that hold a content.
@@ -95,7 +93,7 @@ fn read_header(bytes: &[u8]) -> Result<Header, Refusal>
         Checking (length b) (mark_fields b ++ header_fields (header_in b) (slice_index b 12)) (λ h. h ≡ header_in b) result }
 {
     let rest = read_mark(bytes)?;
-    let header = header_of(char::from(byte_at(rest, 0)), bytes);
+    let header = header_of(rest);
     let flag = u32::from(byte_at(bytes, 12));
     check(&header_fields(&header, flag), bytes.len())?;
     Ok(header)

@@ -1,5 +1,6 @@
 -- That a hashed table counts the keys that it holds.
 -- It stands here because the impl cites it; there is nothing in it that a reader has to believe.
+-- Its list of keys goes over places with holes, that of a tree over nodes: one for both would need the place of each entry.
 use Rattle.std.specs.Prelude.{◌≡◌, ℕ, suc, true, false, cond, ◌⊎◌, List, [], ◌∷◌, length, is_some, Some, None, refl}
 use Rattle.std.proofs.Common.{sym, ◌∙◌, inl, inr, arith}
 use Rattle.std.proofs.lemmas.Bool.Decides.{nat_tests}

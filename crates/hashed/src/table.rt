@@ -8,7 +8,7 @@ use store::capacity::Capacity;
 #[derive(Drop)]
 pub struct Hashed {
     pub(crate) slots: [Option<Entry>; 128],
-    // How many places are taken: a count of its own, so that `free` need not walk them.
+    // How many places are taken: a table with holes has no length that would tell.
     pub(crate) held: usize,
     pub(crate) capacity: Capacity,
     ghost reached: { Reached slots },

@@ -1,5 +1,6 @@
 -- Rows and their bytes determine each other.
-use Rattle.std.proofs.Common.{◌≡◌, ℕ, zero, suc, ◌+◌, ◌*◌, ◌/◌, ◌%◌, ◌^◌, ◌<◌, ◌≤◌, List, [], ◌∷◌, ◌++◌, length, get_or, take, drop, sym, refl, ap, ◌∙◌, append_assoc, suc-add, mul-zero, zero-add, mul-suc, arith, length-append, length-drop, get_or-drop}
+use Rattle.std.proofs.Common.{◌≡◌, ℕ, zero, suc, ◌+◌, ◌*◌, ◌/◌, ◌%◌, ◌^◌, ◌<◌, ◌≤◌, List, [], ◌∷◌, ◌++◌, length, get_or, take, drop, sym, refl, ap, ◌∙◌, append_assoc, mul-zero, mul-suc, arith, length-append, length-drop, get_or-drop}
+use Rattle.std.proofs.Math.Seq.{take-add}
 use native.Mathlib.Nat.{div-div-eq-div-mul}
 use Rattle.values.specs.Times.{timestamp}
 use Rattle.layout.specs.Numbers.{big, number, Layout, width, reading, writing, laid, rows_in, Each}
@@ -21,15 +22,6 @@ pub firsts : (n : ℕ) (b : List ℕ) → n ≤ length b → take n b ≡ listed
 firsts zero b h = refl
 firsts (suc n) [] h = absurd (omega arith)
 firsts (suc n) (x ∷ b) h = ap (λ (t : List ℕ). x ∷ t) (firsts n b (omega arith))
-
-take_nil : (n : ℕ) → take {A = ℕ} n [] ≡ []
-take_nil zero = refl
-take_nil (suc n) = refl
-
-pub take_add : (m n : ℕ) (b : List ℕ) → take (m + n) b ≡ take m b ++ take n (drop m b)
-take_add zero n b = rw zero-add refl
-take_add (suc m) n [] = take_nil (suc m + n) ∙ sym (take_nil n)
-take_add (suc m) n (x ∷ b) = rw suc-add (ap (λ (t : List ℕ). x ∷ t) (take_add m n b))
 
 -- four bytes as a number, and back
 pub big_number : (b : List ℕ) (p : ℕ) → Bytes b → big (number b p) ≡ get_or b p 0 ∷ get_or b (p + 1) 0 ∷ get_or b (p + 2) 0 ∷ get_or b (p + 3) 0 ∷ []
@@ -121,7 +113,7 @@ module _ {X : Type 0} {l : Layout X} {Fit : X → Type 0} (e : Exact l Fit) wher
       let d = length-drop (width l) b in
       let sum : width l + width l * n ≡ width l * suc n = omega arith in
       (λ i. e.front b (omega arith) f i ++ laid_rows n (drop (width l) b) (omega arith) (drop_bytes (width l) b f) i)
-      ∙ (sym (take_add (width l) (width l * n) b) ∙ ap (λ (k : ℕ). take k b) sum)
+      ∙ (sym (take-add (width l) (width l * n) b) ∙ ap (λ (k : ℕ). take k b) sum)
 
   pub rows_fit : (n : ℕ) (b : List ℕ) → Bytes b → Each Fit (rows_in l n b)
   rows_fit zero b f = tt

@@ -1,9 +1,8 @@
 -- Bytes whose fields all pass are the frame of the message that stands in them.
 use Rattle.std.proofs.Common.{◌≡◌, ℕ, zero, suc, ◌+◌, ◌*◌, ◌≤◌, Bool, true, false, cond, ◌||◌, eqb, leb, List, [], ◌∷◌, ◌++◌, length, get_or, take, drop, Some, None, Option, unwrap_or, sym, refl, ap, ◌∙◌, subst, mul-zero, mul-suc, arith, length-drop, take-append-drop, get_or-drop, take_all, drop-drop, eqb-true, leb-true}
 use mathlib.Core.Path.{fun_ext}
-use borrow.Author.Tests.{eqb-false}
 use Rattle.std.proofs.lemmas.List.{drop_all}
-use Rattle.std.proofs.lemmas.Bool.{and_parts}
+use Rattle.std.proofs.lemmas.Bool.{and_parts, cond_both, eqb-false}
 use Rattle.values.specs.Times.{timestamp}
 use Rattle.values.specs.declared.timestamp.Timestamp.{Timestamp}
 use Rattle.field.specs.Layouts.{holds, Passes, ranged, rows}
@@ -15,10 +14,6 @@ use Rattle.layout.specs.Numbers.{Layout, width, laid, rows_in, reading, writing}
 use Rattle.layout.specs.Format.{rules, no_kind, limits, content_limits, header_fields, count_fields, row_fields, table_fields, part_fields}
 use Rattle.layout.specs.Frames.{frame, part_bytes, FitsPart, Lawful, header_in, content_in, part_in, value_in, mark_fields, end_field, byte_fields}
 use Rattle.layout.proofs.Rows.{Bytes, drop_bytes, listed, firsts, big_number, number_fits, exact_read, exact_write, length_rows, laid_rows, rows_fit}
-
-cond_both : {X : Type 0} (P : X → Type 0) (t : Bool) (a b : X) → P a → P b → P (cond t a b)
-cond_both P true a b h k = h
-cond_both P false a b h k = k
 
 -- a content's flag is at most 1, whatever the kind
 record Flags (o : Option KindRules) : Type 0 where
@@ -34,7 +29,7 @@ flags k =
     (kind 82 (low _ _ _ (0, 1) (1, 1) (omega arith) (omega arith)) (record { plain = omega arith; commit = omega arith })))))))
   where
     kind : (l : ℕ) {a b : Option KindRules} → Flags a → Flags b → Flags (cond (eqb k l) a b)
-    kind l {a} {b} h g = cond_both Flags (eqb k l) a b h g
+    kind l {a} {b} h g = cond_both (eqb k l) a b Flags (λ _. h) (λ _. g)
 
 pub in_limits : (n p x : ℕ) (l : ℕ × ℕ) → holds n (ranged p x l) ≡ true → (l.0 ≤ x) × (x ≤ l.1)
 in_limits n p x l h =
@@ -44,7 +39,7 @@ in_limits n p x l h =
 pub flag_limit : (n : ℕ) (h : Header) (k : ℕ) → Passes n (header_fields h k) → k ≤ 1
 flag_limit n h k q =
     let l = (in_limits n 12 k (content_limits h) q.1.1.1.1.1.1.1.0).1 in
-    let c : (content_limits h).1 ≤ 1 = cond_both (λ (m : ℕ × ℕ). m.1 ≤ 1) (eqb h.code 2 || eqb h.accepted 2) (limits h).commit (limits h).plain (flags h.kind).commit (flags h.kind).plain in
+    let c : (content_limits h).1 ≤ 1 = cond_both (eqb h.code 2 || eqb h.accepted 2) (limits h).commit (limits h).plain (λ m. m.1 ≤ 1) (λ _. (flags h.kind).commit) (λ _. (flags h.kind).plain) in
     omega arith
 
 -- the next n bytes from place p on, one by one

@@ -72,13 +72,6 @@ row_fields l t base xs i =
     ∷ record { place = base + width l * i + 4; width = l.rest; good = l.lawful t (slice_index_or xs i l.blank) }
     ∷ []
 
--- the fields of a row behind the earlier ones, of which the first begins at base
-abbrev pub next_fields : {X : Type 0} → Layout X → Timestamp → ℕ → List X → X → List Field
-next_fields l t base earlier x =
-    record { place = base + width l * length earlier; width = 4; good = not (list_any (λ e. l.key e == l.key x) earlier) }
-    ∷ record { place = base + width l * length earlier + 4; width = l.rest; good = l.lawful t x }
-    ∷ []
-
 abbrev pub table_fields : {X : Type 0} → Layout X → Timestamp → ℕ → List X → List Field
 table_fields l t base xs = rows (row_fields l t base xs) (length xs)
 

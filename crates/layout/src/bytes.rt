@@ -5,6 +5,7 @@ ghost use Rattle.bounded.specs.Lists.{Held};
 ghost use Rattle.layout.specs.Numbers.{width, laid};
 ghost use Rattle.layout.specs.Puts.{ContentBytes};
 
+use crate::fields::ContentFields;
 use crate::row::Row;
 use bounded::Bounded;
 use content::rows::{Read, Write};
@@ -21,9 +22,14 @@ pub fn rows_bytes<T: Row, const N: usize>(rows: &[T]) -> Option<Bounded<u8, N>>
 }
 
 // The bytes of a content from its second on; none if it has more than four rows of a kind, as 36 or 32 bytes hold no more.
-pub fn content_bytes(second: u32, reads: &[Read], writes: &[Write]) -> Option<Bounded<u8, 74>>
-    ensures { ContentBytes second reads.now writes.now result }
+pub fn content_bytes(content: &ContentFields<'_>) -> Option<Bounded<u8, 74>>
+    ensures { ContentBytes content.now result }
 {
+    let ContentFields {
+        second,
+        reads,
+        writes,
+    } = *content;
     let read_bytes = rows_bytes::<Read, 36>(reads)?;
     let write_bytes = rows_bytes::<Write, 32>(writes)?;
     let mut bytes = Bounded::empty();

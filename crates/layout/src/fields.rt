@@ -12,6 +12,7 @@ pub struct Fields<'a> {
 }
 
 // The fields of a content.
+// A second, reads and writes stand in other types too, as bytes or as rows, lent or owned: each has rules and makers of its own.
 #[derive(Clone, Copy)]
 pub struct ContentFields<'a> {
     pub second: u32,

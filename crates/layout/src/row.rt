@@ -1,11 +1,13 @@
 // Reads and writes as the rows of a frame: what they share is written once.
 
-ghost use Rattle.std.specs.Prelude.{◌≡◌, ℕ, ◌+◌, ◌*◌, ◌<◌, ◌≤◌, min, List, length, take, drop, slice_index, refl};
+ghost use Rattle.std.specs.Prelude.{◌≡◌, ℕ, ◌+◌, ◌*◌, ◌<◌, ◌≤◌, ◌++◌, ◌∷◌, min, List, length, take, drop, Some, slice_index, refl};
 ghost use Rattle.std.proofs.Common.{arith};
 ghost use Rattle.field.specs.Layouts.{Checked};
 ghost use Rattle.layout.specs.Numbers.{number, Layout, width, reading, writing, rows_in};
-ghost use Rattle.layout.specs.Format.{next_fields, table_fields, content_fields};
+ghost use Rattle.layout.specs.Values.{part_given};
+ghost use Rattle.layout.specs.Format.{row_fields, table_fields, part_fields};
 
+use crate::fields::ContentFields;
 use crate::format::count_fields;
 use bounded::Bounded;
 use content::keyed::{Keyed, has_key};
@@ -157,11 +159,11 @@ pub fn rows_in<T: Row>(bytes: &[u8], count: usize) -> Bounded<T, 4>
     rows
 }
 
-// The fields of a row behind the earlier ones, of which the first begins at base.
+// The fields of a row behind the earlier ones, of which the first begins at base, whatever rows follow.
 fn row_fields<T: Row>(earlier: &[T], row: &T, base: usize, timestamp: Timestamp) -> [Field; 2]
     requires few { length earlier.now < 4 }
     requires near { base ≤ 55 }
-    ensures { result ≡ next_fields T.Row.layout timestamp base earlier.now row.now }
+    ensures { (rest : List T) → result ≡ row_fields T.Row.layout timestamp base (earlier.now ++ row.now ∷ rest) (length earlier.now) }
 {
     let place = base + (4 + T::REST) * earlier.len();
     [
@@ -195,15 +197,20 @@ fn check_rows<T: Row>(
     Ok(())
 }
 
-// Checks a content from its second on, in a frame of which `size` bytes are there.
+// Checks the content of a transaction from its second on, in a frame of which `size` bytes are there.
 pub fn check_content(
-    timestamp: Timestamp,
-    reads: &[Read],
-    writes: &[Write],
+    content: &ContentFields<'_>,
+    transaction: u32,
     size: usize,
 ) -> Result<(), Refusal>
-    ensures { Checked size (content_fields timestamp reads.now writes.now) result }
+    ensures { Checked size (part_fields transaction (part_given (Some content.now))) result }
 {
+    let ContentFields {
+        second,
+        reads,
+        writes,
+    } = *content;
+    let timestamp = Timestamp::new(second, transaction);
     check(&count_fields(reads.len(), writes.len()), size)?;
     check_rows(reads, 19, timestamp, size)?;
     check_rows(writes, 19 + 9 * reads.len(), timestamp, size)

@@ -7,7 +7,7 @@ use Rattle.values.specs.declared.refusal.Refusal.TheVariants.{ShortBuffer}
 abbrev pub Frame : Type 0
 Frame = ℕ × List ℕ
 
--- the frame is among those
+-- the frame is among those: by cases, as the laws of links go, where the library's Contains goes by a place
 abbrev pub Among : Frame → List Frame → Type 0
 Among f [] = ⊥
 Among f (x ∷ xs) = (f ≡ x) ⊎ Among f xs

@@ -7,7 +7,7 @@ use link::packet::Packet;
 pub(crate) const PLACES: usize = 16;
 
 // The frames by place, the place of the oldest, and the place where the next round begins; the yard's pouch. The memory for all is there from the start, so that a put cannot fail.
-// A plain Vec: a type with this room, for all links that keep frames, would repeat the methods of Vec.
+// A plain Vec: a type of our own would repeat its methods; the kit's ArrayVec would need a default packet, and leave `new` nothing to allocate.
 #[derive(Drop)]
 pub struct RoundRobin {
     pub(crate) frames: Vec<Packet>,

@@ -3,7 +3,7 @@ ghost use Rattle.std.specs.Prelude.{ℕ, ◌≤◌};
 use values::refusal::Refusal;
 
 // How many rows a store has room for.
-#[derive(Clone, Copy, Debug, PartialEq, Eq)]
+#[derive(Clone, Copy)]
 pub struct Capacity {
     rows: usize,
     ghost bounds: { (1 ≤ rows) × (rows ≤ 64) },

@@ -32,7 +32,7 @@ impl Row {
 }
 
 // A row with its key.
-#[derive(Clone, Copy, Debug, Default, PartialEq, Eq)]
+#[derive(Clone, Copy, Default)]
 pub struct Entry {
     pub key: u32,
     pub row: Row,

@@ -8,27 +8,6 @@ use tree::arena::Tree;
 use values::refusal::Refusal;
 use values::timestamp::Timestamp;
 
-// Which keys a run has: dense ones, ones that are equal modulo 64 or 128, the highest, any.
-pub fn dense(n: u32) -> u32 {
-    n % 80
-}
-
-pub fn modulo_64(n: u32) -> u32 {
-    n % 80 * 64
-}
-
-pub fn modulo_128(n: u32) -> u32 {
-    n % 80 * 128
-}
-
-pub fn highest(n: u32) -> u32 {
-    4294967295 - n % 80
-}
-
-pub fn any(n: u32) -> u32 {
-    n
-}
-
 // The next of a row of numbers that look like chance; the upper bits are the better ones.
 fn next(n: u32) -> u32 {
     n.wrapping_mul(1664525).wrapping_add(1013904223)
@@ -43,7 +22,7 @@ pub fn row(n: u32) -> Row {
     }
 }
 
-// Puts and looks in turn, and at the end a look at many keys.
+// Puts and looks in turn at keys that `key_of` gives, and at the end a look at 80 of them.
 fn run<S: Store + Drop, K: Fn(u32) -> u32>(
     rt: &impl Abort,
     mut compared: Compared<S>,
@@ -68,7 +47,7 @@ fn run<S: Store + Drop, K: Fn(u32) -> u32>(
     Ok(())
 }
 
-// The run on a store of each kind, and on either.
+// The run on a store of each kind, and on either: four lines, since no closure is generic over the store.
 pub(crate) fn all_run<K: Fn(u32) -> u32 + Drop>(
     rt: &impl Abort,
     alloc: Global,

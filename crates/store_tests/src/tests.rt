@@ -11,34 +11,34 @@ use values::refusal::Refusal;
 
 #[test]
 fn runs_over_dense_keys(rt: HostRuntime) -> Result<(), Fail> {
-    all_run(&rt, rt.alloc(), 64, dense, 1)?;
-    all_run(&rt, rt.alloc(), 40, dense, 2)?;
-    all_run(&rt, rt.alloc(), 2, dense, 3)?;
-    all_run(&rt, rt.alloc(), 1, dense, 4)
+    all_run(&rt, rt.alloc(), 64, |n| n % 80, 1)?;
+    all_run(&rt, rt.alloc(), 40, |n| n % 80, 2)?;
+    all_run(&rt, rt.alloc(), 2, |n| n % 80, 3)?;
+    all_run(&rt, rt.alloc(), 1, |n| n % 80, 4)
 }
 
 #[test]
 fn runs_over_keys_equal_modulo_64(rt: HostRuntime) -> Result<(), Fail> {
-    all_run(&rt, rt.alloc(), 64, modulo_64, 5)?;
-    all_run(&rt, rt.alloc(), 33, modulo_64, 6)
+    all_run(&rt, rt.alloc(), 64, |n| n % 80 * 64, 5)?;
+    all_run(&rt, rt.alloc(), 33, |n| n % 80 * 64, 6)
 }
 
 #[test]
 fn runs_over_keys_equal_modulo_128(rt: HostRuntime) -> Result<(), Fail> {
-    all_run(&rt, rt.alloc(), 64, modulo_128, 7)?;
-    all_run(&rt, rt.alloc(), 33, modulo_128, 8)
+    all_run(&rt, rt.alloc(), 64, |n| n % 80 * 128, 7)?;
+    all_run(&rt, rt.alloc(), 33, |n| n % 80 * 128, 8)
 }
 
 #[test]
 fn runs_over_the_highest_keys(rt: HostRuntime) -> Result<(), Fail> {
-    all_run(&rt, rt.alloc(), 64, highest, 9)?;
-    all_run(&rt, rt.alloc(), 50, highest, 10)
+    all_run(&rt, rt.alloc(), 64, |n| u32::MAX - n % 80, 9)?;
+    all_run(&rt, rt.alloc(), 50, |n| u32::MAX - n % 80, 10)
 }
 
 #[test]
 fn runs_over_any_keys(rt: HostRuntime) -> Result<(), Fail> {
-    all_run(&rt, rt.alloc(), 64, any, 11)?;
-    all_run(&rt, rt.alloc(), 63, any, 4294967295)
+    all_run(&rt, rt.alloc(), 64, |n| n, 11)?;
+    all_run(&rt, rt.alloc(), 63, |n| n, u32::MAX)
 }
 
 // A refusal as a user meets it.
@@ -93,19 +93,19 @@ fn all_fill(rt: &impl Abort, alloc: Global, keys: &[u32], more: u32) -> Result<(
 fn one_row_and_no_more(rt: HostRuntime) -> Result<(), Fail> {
     all_fill(&rt, rt.alloc(), &[0], 1)?;
     all_fill(&rt, rt.alloc(), &[1], 0)?;
-    all_fill(&rt, rt.alloc(), &[4294967295], 0)
+    all_fill(&rt, rt.alloc(), &[u32::MAX], 0)
 }
 
 #[test]
 fn lowest_and_highest_key(rt: HostRuntime) -> Result<(), Fail> {
-    all_fill(&rt, rt.alloc(), &[0, 4294967295], 2147483648)?;
-    all_fill(&rt, rt.alloc(), &[4294967295, 0, 2147483648], 1)
+    all_fill(&rt, rt.alloc(), &[0, u32::MAX], 1 << 31)?;
+    all_fill(&rt, rt.alloc(), &[u32::MAX, 0, 1 << 31], 1)
 }
 
 #[test]
 fn ascending_and_descending_keys(rt: HostRuntime) -> Result<(), Fail> {
     let ascending: [u32; 64] = array::from_fn(|i| i as u32 * 3);
-    let descending: [u32; 64] = array::from_fn(|i| 4294967295 - i as u32);
+    let descending: [u32; 64] = array::from_fn(|i| u32::MAX - i as u32);
     all_fill(&rt, rt.alloc(), &ascending, 1)?;
     all_fill(&rt, rt.alloc(), &descending, 0)
 }
@@ -135,7 +135,7 @@ fn capacities(rt: HostRuntime) -> Result<(), Fail> {
         assert_eq!(rt; Hashed::new(capacity).err().map(u8::from), Some(17));
         assert_eq!(rt; Tree::new(capacity).err().map(u8::from), Some(17));
     }
-    for capacity in 1..65usize {
+    for capacity in 1..=64usize {
         assert_eq!(rt; Hashed::new(capacity)?.free(), capacity);
         assert_eq!(rt; Tree::new(capacity)?.free(), capacity);
     }

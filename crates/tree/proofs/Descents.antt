@@ -6,7 +6,7 @@ use Rattle.std.proofs.lemmas.Bool.{cases_order, and_parts, ltb-true}
 use Rattle.tree.specs.declared.node.Node.{Node}
 use Rattle.tree.specs.Nodes.{at, next_of, Leads, here, lower, higher, Descent, Reached, Linked}
 use Rattle.tree.specs.Laws.{Ended, own, lowest, highest}
-use Rattle.tree.specs.Counts.{some_none, next_lower, next_higher, next_own, one_end}
+use Rattle.tree.specs.Counts.{next_lower, next_higher, next_own, one_end}
 
 pub ended : (x : Node) (k : ℕ) → next_of x k ≡ None → Ended x k
 ended x k e = go (cases_order x.entry.key k)
@@ -22,7 +22,7 @@ module _ (xs : List Node) (k : ℕ) where
   before i c j e w = go (cases_order (at xs i).entry.key k)
     where
       go : ((at xs i).entry.key ≡ k) ⊎ (((at xs i).entry.key < k) ⊎ (k < (at xs i).entry.key)) → Leads xs k i j
-      go (inl h) = some_none (next_of (at xs i) k) e (next_own (at xs i) k h)
+      go (inl h) = let f = next_own (at xs i) k h in cc
       go (inr (inl h)) = higher h (sym (next_higher (at xs i) k h) ∙ e) w
       go (inr (inr h)) = lower h (sym (next_lower (at xs i) k h) ∙ e) w
 

@@ -10,7 +10,6 @@ use Rattle.store.specs.Table.{Table, Put, row_at, null_row}
 use Rattle.store.proofs.Puts.{put_again, put_new, put_full}
 use Rattle.tree.specs.declared.node.Node.{Node}
 use Rattle.tree.specs.Nodes.{at, next_of, linked_to, leaf_of, rowed, changed, grown, find, onward, Leads, here, Descent, Reached, Linked}
-use Rattle.tree.specs.Counts.{some_none}
 use Rattle.tree.proofs.Descents.{after, own_end, own_way, Still, still_leads}
 
 everywhere : (P : ℕ → Type 0) (p : ℕ) → P p → ((i : ℕ) → i ≢ p → P i) → (i : ℕ) → P i
@@ -202,7 +201,7 @@ module _ {xs : List Node} {k p : ℕ} (linked : Linked xs) (reached : Reached xs
         where
           go : On j i → next_of (at more i) j ≡ Some c
           go (inl s) = s ∙ e
-          go (inr (s, f)) = some_none (next_of (at xs i) j) e f
+          go (inr (s, f)) = cc
 
       leads_new : Leads more k 0 n
       leads_new = after more k 0 p n (still_leads xs more k 0 p linked (old_still k) (omega (arith, d.within)) d.path)

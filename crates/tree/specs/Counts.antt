@@ -1,6 +1,7 @@
 -- That a search tree counts the keys that it holds: the descent for a key has one end, so no two nodes have one key.
 -- It stands here because the impl cites it; there is nothing in it that a reader has to believe.
-use Rattle.std.specs.Prelude.{◌≡◌, ℕ, suc, ◌<◌, cond, ◌≢◌, ◌⊎◌, List, [], ◌∷◌, length, is_some, Some, None, Option, refl}
+-- Its list of keys goes over nodes, that of a hashed table over places with holes: one for both would need the place of each entry.
+use Rattle.std.specs.Prelude.{◌≡◌, ℕ, suc, ◌<◌, cond, ◌≢◌, ◌⊎◌, List, [], ◌∷◌, length, is_some, Some, None, refl}
 use Rattle.std.proofs.Common.{sym, ap, ◌∙◌, subst, inl, inr, arith}
 use Rattle.std.proofs.Math.Logic.{∥∥₁_elim}
 use Rattle.std.proofs.Math.Nat.{ℕ_set}
@@ -10,9 +11,6 @@ use Rattle.tree.specs.declared.arena.Tree.{Tree}
 use Rattle.tree.specs.declared.node.Node.{Node}
 use Rattle.tree.specs.Nodes.{at, next_of, find, Leads, here, lower, higher, Reached}
 use Rattle.tree.specs.Means.{tree_table}
-
-pub some_none : {A : Type 0} {c : ℕ} (o : Option ℕ) → o ≡ Some c → o ≡ None → A
-some_none o e f = cc
 
 -- the three ways on from a node
 pub next_lower : (x : Node) (k : ℕ) → k < x.entry.key → next_of x k ≡ x.lower
@@ -40,14 +38,14 @@ module _ (xs : List Node) (k : ℕ) where
     where
       go : First i j → i ≡ j
       go (inl s) = s
-      go (inr (c, n, v)) = some_none (next_of (at xs i) k) n e
+      go (inr (c, n, v)) = cc
 
   -- a way to where the descent ends takes the step that there is
   steps : (i c q : ℕ) → next_of (at xs i) k ≡ Some c → next_of (at xs q) k ≡ None → Leads xs k i q → Leads xs k c q
   steps i c q n f v = go (first i q v)
     where
       go : First i q → Leads xs k c q
-      go (inl s) = some_none (next_of (at xs i) k) n (rw s f)
+      go (inl s) = cc
       go (inr (b, m, u)) = let s : b ≡ c = cc in subst (λ (d : ℕ). Leads xs k d q) s u
 
   -- the descent for a key has one end

@@ -15,7 +15,7 @@ pub mod node;
 use arena::Tree;
 use arrayvec::ArrayVec;
 use node::Node;
-use store::{Row, Store};
+use store::{Entry, Row, Store};
 use values::refusal::Refusal;
 
 // The node at p gets another row.
@@ -27,13 +27,13 @@ fn change(nodes: &mut ArrayVec<Node, 64>, p: usize, row: Row)
 }
 
 // The node at p leads to a new one.
-fn grow(nodes: &mut ArrayVec<Node, 64>, p: usize, key: u32, row: Row)
+fn grow(nodes: &mut ArrayVec<Node, 64>, p: usize, entry: Entry)
     requires there { p < array_vec_len nodes.old }
     requires room { array_vec_len nodes.old < 64 }
-    ensures { nodes.new.items ≡ grown nodes.old.items p key row }
+    ensures { nodes.new.items ≡ grown nodes.old.items p entry.key entry.row }
 {
-    nodes[p] = nodes[p].linked(key, nodes.len());
-    nodes.push(Node::leaf(key, row));
+    nodes[p] = nodes[p].linked(entry.key, nodes.len());
+    nodes.push(Node::leaf(entry));
 }
 
 impl Tree {
@@ -75,7 +75,7 @@ impl Store for Tree {
 
     fn put(&mut self, key: u32, row: Row) -> Result<(), Refusal> {
         if self.nodes.is_empty() {
-            self.nodes.push(Node::leaf(key, row));
+            self.nodes.push(Node::leaf(Entry { key, row }));
             return Ok(());
         }
         let p = self.place(key);
@@ -86,7 +86,7 @@ impl Store for Tree {
         if self.nodes.len() == self.capacity.rows() {
             return Err(Refusal::StoreFull { key });
         }
-        grow(&mut self.nodes, p, key, row);
+        grow(&mut self.nodes, p, Entry { key, row });
         Ok(())
     }
 

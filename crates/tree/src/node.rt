@@ -2,7 +2,7 @@ ghost use Rattle.std.specs.Prelude.{◌≡◌};
 ghost use Rattle.tree.specs.Nodes.{next_of, linked_to, leaf_of};
 
 use std::cmp::Ordering;
-use store::{Entry, Row};
+use store::Entry;
 
 // The links lead to the nodes of lower and of higher keys.
 #[derive(Clone, Copy, Default)]
@@ -13,11 +13,11 @@ pub struct Node {
 }
 
 impl Node {
-    pub(crate) fn leaf(key: u32, row: Row) -> Node
-        ensures { result ≡ leaf_of key row }
+    pub(crate) fn leaf(entry: Entry) -> Node
+        ensures { result ≡ leaf_of entry.key entry.row }
     {
         Node {
-            entry: Entry { key, row },
+            entry,
             lower: None,
             higher: None,
         }

@@ -22,6 +22,10 @@ ruled_as {h} {g} {m} {n} p q r = subst (λ (y : Header). Ruled y n) p (subst (λ
 abbrev front : List ℕ → List Field
 front b = mark_fields b ++ header_fields (header_in b) (get_or b 12 0)
 
+-- the end that is checked is that of the bytes
+ended : (b : List ℕ) (o : Option Parts) (e : Field) → Bytes b → PartsOf b o → Passes (length b) (part_fields (get_or b 6 0) (part_in b)) → e ≡ ending (length b) (size (content_of o)) → e ∷ [] ≡ end_field b ∷ []
+ended b o e f k q h = ap (λ (e : Field). e ∷ []) (h ∙ ap (λ (p : Option Part). ending (length b) (size p)) (content_is b f o k q))
+
 pub returns-in_err-header : goal.returns-in_err-header
 returns-in_err-header c =
     let p = err_from_is_err_and c.from_residual.result c.from_residual.ensures.1 in
@@ -36,13 +40,10 @@ returns-in_err-content c =
 pub returns-in_err-check : goal.returns-in_err-check
 returns-in_err-check c =
     let b = c.args.bytes.now in
-    let n = length b in
-    let f : Bytes b = λ i. omega (arith, c.type_inv.bytes i) in
     let k = c.in_ok-content.ensures in
-    let content = content_is b f c.in_ok-content.content k.1 k.0 in
-    let e = ap (λ (f : Field). f ∷ []) (c.end_field.ensures ∙ ap (λ (o : Option Part). ending n (size o)) content) in
+    let e = ended b c.in_ok-content.content c.end_field.result (λ i. omega (arith, c.type_inv.bytes i)) k.1 k.0 c.end_field.ensures in
     let p = err_from_is_err_and c.from_residual-in_err-check.result c.from_residual-in_err-check.ensures.1 in
-    rw (p.1, p.2) (after (front b) c.in_ok-header.ensures.0 (after (part_fields (get_or b 6 0) (part_in b)) c.in_ok-content.ensures.0 (same_breaks e c.in_err-check.ensures.verdict)))
+    rw (p.1, p.2) (after (front b) c.in_ok-header.ensures.0 (after (part_fields (get_or b 6 0) (part_in b)) k.0 (same_breaks e c.in_err-check.ensures.verdict)))
 
 pub message_of-requires : goal.message_of-requires
 message_of-requires c =
@@ -62,7 +63,7 @@ returns c =
     let k = c.in_ok-content.ensures in
     let part = part_fields (get_or b 6 0) (part_in b) in
     let content = content_is b f c.in_ok-content.content k.1 k.0 in
-    let e = ap (λ (f : Field). f ∷ []) (c.end_field.ensures ∙ ap (λ (o : Option Part). ending n (size o)) content) in
+    let e = ended b c.in_ok-content.content c.end_field.result f k.1 k.0 c.end_field.ensures in
     let q : Passes n (byte_fields b) = pass_both n (front b) (part ++ (end_field b ∷ [])) h.0 (pass_both n part (end_field b ∷ []) k.0 (same_passes n e c.in_ok-check.ensures.verdict)) in
     let v : value_in b ≡ value c.message_of.result = sym (λ i. record {
       header = (c.message_of.ensures.means ∙ h.1) i;

@@ -13,6 +13,6 @@ returns-in_err-rest c =
 
 pub returns-in_err-check : goal.returns-in_err-check
 returns-in_err-check c =
-    let e = c.header_fields.ensures ∙ (λ i. header_fields (c.header_of-header.ensures i) ((c.from-flag.ensures ∙ c.byte_at-2.ensures) i)) in
+    let e = c.header_fields.ensures ∙ (λ i. header_fields (c.header_of-header.ensures c.args.bytes.now c.in_ok-rest.ensures.1 i) ((c.from-flag.ensures ∙ c.byte_at.ensures) i)) in
     let p = err_from_is_err_and c.from_residual-in_err-check.result c.from_residual-in_err-check.ensures.1 in
     rw (p.1, p.2) (after (mark_fields c.args.bytes.now) c.in_ok-rest.ensures.0 (same_breaks e c.in_err-check.ensures.verdict))

@@ -7,38 +7,38 @@ use Rattle.layout.proofs.bytes.content_bytes.Goals as goal
 
 pub returns-in_err-read_bytes : goal.returns-in_err-read_bytes
 returns-in_err-read_bytes c =
-    let n = length_laid reading exact_read.long c.args.reads.now in
-    let h : 36 < length (laid reading c.args.reads.now) = subst (Held 36 (laid reading c.args.reads.now)) c.in_err-read_bytes.was c.rows_bytes.ensures in
+    let n = length_laid reading exact_read.long c.args.content.now.reads.now in
+    let h : 36 < length (laid reading c.args.content.now.reads.now) = subst (Held 36 (laid reading c.args.content.now.reads.now)) c.in_err-read_bytes.was c.rows_bytes.ensures in
     rw c.from_residual.ensures (inl (omega arith))
 
 pub returns-in_err-write_bytes : goal.returns-in_err-write_bytes
 returns-in_err-write_bytes c =
-    let n = length_laid writing exact_write.long c.args.writes.now in
-    let h : 32 < length (laid writing c.args.writes.now) = subst (Held 32 (laid writing c.args.writes.now)) c.in_err-write_bytes.was c.rows_bytes-2.ensures in
+    let n = length_laid writing exact_write.long c.args.content.now.writes.now in
+    let h : 32 < length (laid writing c.args.content.now.writes.now) = subst (Held 32 (laid writing c.args.content.now.writes.now)) c.in_err-write_bytes.was c.rows_bytes-2.ensures in
     rw c.from_residual-in_err-write_bytes.ensures (inr (omega arith))
 
 pub overflow_cast-reads : goal.overflow_cast-reads
 overflow_cast-reads c =
-    let n = length_laid reading exact_read.long c.args.reads.now in
+    let n = length_laid reading exact_read.long c.args.content.now.reads.now in
     let h = c.in_ok-read_bytes.ensures.0 in
     omega arith
 
 pub overflow_cast-writes : goal.overflow_cast-writes
 overflow_cast-writes c =
-    let n = length_laid writing exact_write.long c.args.writes.now in
+    let n = length_laid writing exact_write.long c.args.content.now.writes.now in
     let h = c.in_ok-write_bytes.ensures.0 in
     omega arith
 
 pub returns : goal.returns
 returns c =
-    let rs = c.args.reads.now in
-    let ws = c.args.writes.now in
+    let rs = c.args.content.now.reads.now in
+    let ws = c.args.content.now.writes.now in
     let nr = length_laid reading exact_read.long rs in
     let nw = length_laid writing exact_write.long ws in
     let hr = c.in_ok-read_bytes.ensures.0 in
     let hw = c.in_ok-write_bytes.ensures.0 in
     let counts : List ℕ = length rs ∷ length ws ∷ [] in
-    let second : c.extend.new.self ≡ big c.args.second =
+    let second : c.extend.new.self ≡ big c.args.content.now.second =
     appended 74 c.to_be_bytes.result c.empty-bytes.result c.extend.new.self c.extend.result c.unwrap.result c.unwrap.ensures c.extend.ensures
     ∙ (λ i. c.empty-bytes.ensures i ++ c.to_be_bytes.ensures i) in
     let counted = appended 74 counts c.extend.new.self c.extend-2.new.self c.extend-2.result c.unwrap-2.result c.unwrap-2.ensures c.extend-2.ensures in

@@ -14,7 +14,7 @@ copy_from_slice-requires c =
 pub copy_from_slice-requires-in-Some : goal.copy_from_slice-requires-in-Some
 copy_from_slice-requires-in-Some c =
     let content = c.in-Some.content in
-    let bytes = (subst (ContentBytes content.second content.reads.now content.writes.now) c.unwrap-bytes.ensures c.content_bytes.ensures).2 in
+    let bytes = (subst (ContentBytes content) c.unwrap-bytes.ensures c.content_bytes.ensures).2 in
     let n = ap length (c.as_slice.ensures.items ∙ bytes) in
     let h = ap length (c.copy_from_slice.ensures.after ∙ c.head.ensures) in
     let s = ap (λ (o : Option ContentFields). length (part_bytes (part_given o))) c.in-Some.is in
