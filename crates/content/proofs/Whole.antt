@@ -6,7 +6,7 @@ use Rattle.values.specs.Times.{version}
 use Rattle.content.specs.declared.content.Content.{Content}
 use Rattle.content.specs.Rules.{Body, sound, SoundTested, read_keys, write_keys, no_read}
 use Rattle.content.specs.Contents.{body, Made, ToldByBody}
-use Rattle.content.proofs.Apart.{differ_apart, apart_differ, before_each, each_before}
+use Rattle.content.proofs.Apart.{differ_apart, apart_differ, before_tested}
 
 pub sound_tested : SoundTested
 sound_tested = record {
@@ -24,13 +24,13 @@ sound_tested = record {
         some = leb-true _ _ p4.1;
         reads_apart = differ_apart (read_keys b.reads) _ p5.0;
         writes_apart = differ_apart (write_keys b.writes) _ p6.0;
-        are_versions = λ i l. (and_parts (version (get_or b.reads i no_read).version) _ (each_before b.timestamp b.reads _ i l p6.1)).0;
-        are_before = λ i l. (and_parts (version (get_or b.reads i no_read).version) _ (each_before b.timestamp b.reads _ i l p6.1)).1;
+        are_versions = λ i l. (and_parts (version (get_or b.reads i no_read).version) _ ((before_tested b.timestamp b.reads _).0 p6.1 i l)).0;
+        are_before = λ i l. (and_parts (version (get_or b.reads i no_read).version) _ ((before_tested b.timestamp b.reads _).0 p6.1 i l)).1;
       };
   every = λ b s.
       and_from _ _ s.names (and_from _ _ (and_from _ _ (le-leb _ _ s.few_reads) (and_from _ _ (le-leb _ _ s.few_writes) (le-leb _ _ s.some)))
       (and_from _ _ (apart_differ (read_keys b.reads) _ s.reads_apart) (and_from _ _ (apart_differ (write_keys b.writes) _ s.writes_apart)
-      (before_each b.timestamp b.reads _ (λ i l. and_from _ _ (s.are_versions i l) (s.are_before i l))))));
+      ((before_tested b.timestamp b.reads _).1 (λ i l. and_from _ _ (s.are_versions i l) (s.are_before i l))))));
 }
 
 -- the invariant has one proof at most

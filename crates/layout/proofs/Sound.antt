@@ -6,7 +6,7 @@ use Rattle.values.specs.Times.{timestamp}
 use Rattle.values.specs.declared.timestamp.Timestamp.{Timestamp}
 use Rattle.content.specs.declared.rows.Read.{Read}
 use Rattle.content.specs.Rules.{unlike, differ, few, reads_before}
-use Rattle.content.proofs.Apart.{each_before}
+use Rattle.content.proofs.Apart.{before_tested}
 use Rattle.field.specs.declared.Field.{Field}
 use Rattle.field.specs.Layouts.{Passes, holds, rows}
 use Rattle.field.proofs.Faults.{pass_first, pass_last, pass_both}
@@ -79,6 +79,6 @@ content_rules = record {
       let fr : r ≤ 4 = leb-true _ _ c.0 in
       let fw : w ≤ 4 = leb-true _ _ (and_parts (leb w 4) _ c.1).0 in
       pass_both 87 (count_fields r w) (rs ++ ws) (refl, (c.0, (c.1, tt)))
-      (pass_both 87 rs ws (pass reading 87 at 19 p.reads r (omega arith) s3.0 (λ i h. each_before at p.reads r i h s4.1))
+      (pass_both 87 rs ws (pass reading 87 at 19 p.reads r (omega arith) s3.0 ((before_tested at p.reads r).0 s4.1))
       (pass writing 87 at (19 + 9 * r) p.writes w (omega arith) s4.0 (λ i h. refl)));
 }

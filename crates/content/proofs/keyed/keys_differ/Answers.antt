@@ -6,10 +6,12 @@ use Rattle.content.proofs.keyed.keys_differ.Goals as goal
 
 pub returns-then-has_key : goal.returns-then-has_key
 returns-then-has_key g c =
-    let e = has_earlier g.T.Keyed.key g.T.Blank.blank c.args.rows.now c.loop-i.i c.index-rows-i.result c.key.result c.has_key.result c.loop-i-test.true c.index-rows-i.is c.key.ensures c.has_key.ensures in
-    sym (differ_not (keys_of g.T.Keyed.key g.T.Blank.blank c.args.rows.now) c.loop-i.i (length c.args.rows.now) c.loop-i-test.true (not-true _ (sym e ∙ c.if-has_key.true)))
+    let rows = c.args.rows.now in
+    let e = has_earlier g.T.Keyed.key g.T.Blank.blank rows c.loop-i-test.true c.index-rows-i.is c.key.ensures c.has_key.ensures in
+    sym (differ_not (keys_of g.T.Keyed.key g.T.Blank.blank rows) c.loop-i.i (length rows) c.loop-i-test.true (not-true _ (sym e ∙ c.if-has_key.true)))
 
 pub loop-i-preserved : goal.loop-i-preserved
 loop-i-preserved g c =
-    let e = has_earlier g.T.Keyed.key g.T.Blank.blank c.args.rows.now c.loop-i.i c.index-rows-i.result c.key.result c.has_key.result c.loop-i-test.true c.index-rows-i.is c.key.ensures c.has_key.ensures in
-    differ_more (keys_of g.T.Keyed.key g.T.Blank.blank c.args.rows.now) c.loop-i.i c.loop-i.i (λ i. c.loop-i.i) (not-false _ (sym e ∙ c.if-has_key.false)) c.loop-i.invariant
+    let rows = c.args.rows.now in
+    let e = has_earlier g.T.Keyed.key g.T.Blank.blank rows c.loop-i-test.true c.index-rows-i.is c.key.ensures c.has_key.ensures in
+    differ_more (keys_of g.T.Keyed.key g.T.Blank.blank rows) c.loop-i.i c.loop-i.i (λ i. c.loop-i.i) (not-false _ (sym e ∙ c.if-has_key.false)) c.loop-i.invariant
