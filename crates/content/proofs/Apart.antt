@@ -1,4 +1,4 @@
-use Rattle.std.proofs.Common.{◌≡◌, ◌≢◌, ℕ, zero, suc, ◌+◌, ◌<◌, ◌≤◌, Bool, true, false, not, ◌&&◌, ◌||◌, eqb, List, length, get_or, take, refl, ap, ◌∙◌, subst, add-one, arith}
+use Rattle.std.proofs.Common.{◌≡◌, ◌≢◌, ℕ, zero, suc, ◌+◌, ◌<◌, ◌≤◌, Bool, true, false, not, ◌&&◌, ◌||◌, eqb, List, length, get_or, take, refl, ap, ◌∙◌, add-one, arith}
 use Rattle.std.proofs.lemmas.List.{get_or_read}
 use Rattle.std.proofs.lemmas.List.Folds.{list_any_more}
 use Rattle.std.specs.List.{list_any}
@@ -21,8 +21,8 @@ before_tested t rs n =
     let p = λ (i : ℕ). readable t (get_or rs i no_read) in
     Decides-below_and p (λ i. p i ≡ true) (reads_before t rs) (λ _. (λ h. h, λ h. h)) refl (λ _. refl) n
 
-pub differ_more : (f : ℕ → ℕ) (i j : ℕ) → j ≡ i → unlike f (f i) j ≡ true → differ f i ≡ true → differ f (i + 1) ≡ true
-differ_more f i j e h g = rw add-one (and_from _ _ (subst (λ (k : ℕ). unlike f (f i) k ≡ true) e h) g)
+pub differ_more : (f : ℕ → ℕ) (i : ℕ) → unlike f (f i) i ≡ true → differ f i ≡ true → differ f (i + 1) ≡ true
+differ_more f i h g = rw add-one (and_from _ _ h g)
 
 -- one repeated key is enough
 pub differ_not : (f : ℕ → ℕ) (i n : ℕ) → i < n → unlike f (f i) i ≡ false → differ f n ≡ false

@@ -14,4 +14,4 @@ pub loop-i-preserved : goal.loop-i-preserved
 loop-i-preserved g c =
     let rows = c.args.rows.now in
     let e = has_earlier g.T.Keyed.key g.T.Blank.blank rows c.loop-i-test.true c.index-rows-i.is c.key.ensures c.has_key.ensures in
-    differ_more (keys_of g.T.Keyed.key g.T.Blank.blank rows) c.loop-i.i c.loop-i.i (λ i. c.loop-i.i) (not-false _ (sym e ∙ c.if-has_key.false)) c.loop-i.invariant
+    differ_more (keys_of g.T.Keyed.key g.T.Blank.blank rows) c.loop-i.i (not-false _ (sym e ∙ c.if-has_key.false)) c.loop-i.invariant
