@@ -1,6 +1,5 @@
 -- The fields of a frame in their order, each with the rule of its number given the ones before it.
-use Rattle.std.specs.Prelude.{ℕ, ◌+◌, ◌*◌, Bool, true, not, cond, ◌&&◌, ◌||◌, List, [], ◌∷◌, ◌++◌, length, Some, None, Option, is_some, unwrap_or, ◌==◌, nat_le, slice_index_or}
-use Rattle.std.specs.List.{list_any}
+use Rattle.std.specs.Prelude.{ℕ, ◌+◌, ◌*◌, Bool, true, cond, ◌&&◌, ◌||◌, List, [], ◌∷◌, ◌++◌, length, Some, None, Option, is_some, unwrap_or, ◌==◌, nat_le, slice_index_or}
 use Rattle.values.specs.declared.timestamp.Timestamp.{Timestamp}
 use Rattle.values.specs.Times.{timestamp}
 use Rattle.content.specs.declared.rows.Read.{Read}
