@@ -1,12 +1,12 @@
 -- Frames that were handed out lately.
-use Rattle.std.proofs.Common.{◌≡◌, ℕ, ◌+◌, ◌-◌, ◌||◌, List, [], ◌∷◌, ◌++◌, map, length, drop, Decides, sym, refl, ap, ◌∙◌, arith}
-use Rattle.std.specs.List.{list_any}
+use Rattle.std.proofs.Common.{◌≡◌, ℕ, zero, suc, ◌⊎◌, inl, inr, ◌+◌, ◌-◌, ◌||◌, List, [], ◌∷◌, ◌++◌, map, length, drop, Decides, sym, refl, ap, ◌∙◌, arith}
+use Rattle.std.specs.List.{Contains, list_any}
 use Rattle.std.proofs.lemmas.Slice.Eq.{bytes_eq-Decides}
 use Rattle.std.proofs.lemmas.List.{length-map, length_push, map_push, drop-map, length-drop, drop-drop, drop-append-le}
 use Rattle.std.proofs.lemmas.Bool.Decides.{same_from_decides, Decides-and, Decides-or, Decides-eqb, Decides-like}
 use Rattle.circular_buffer.specs.Buffer.{Buffer, buffer, keep_last}
 use Rattle.link.specs.declared.packet.Packet.{Packet}
-use Rattle.link.specs.Frames.{Frame, Among}
+use Rattle.link.specs.Frames.{Frame}
 use Rattle.link.specs.Packets.{frame_of}
 use Rattle.link.proofs.Frames.{equal, same}
 use Rattle.duplicate_filter.specs.Repeats.{same_frame, seen, last_eight}
@@ -15,9 +15,17 @@ same_decides : (f g : Frame) → Decides (same_frame f g) (f ≡ g)
 same_decides f g =
     Decides-like _ (λ (a, b). λ i. (a i, b i)) (λ e. (ap (λ x. x.0) e, ap (λ x. x.1) e)) (Decides-and _ _ (Decides-eqb f.0 g.0) (bytes_eq-Decides f.1 g.1))
 
-pub seen_decides : (f : Frame) (rs : List Frame) → Decides (seen f rs) (Among f rs)
-seen_decides f [] = (λ t. absurd cc, λ m. absurd m)
-seen_decides f (x ∷ rs) = Decides-or (same_frame f x) (seen f rs) (same_decides f x) (seen_decides f rs)
+pub seen_decides : (f : Frame) (rs : List Frame) → Decides (seen f rs) (Contains rs f)
+seen_decides f [] = (λ t. absurd cc, λ m. absurd (omega (arith, m.1)))
+seen_decides f (x ∷ rs) = Decides-like (seen f (x ∷ rs)) to from (Decides-or (same_frame f x) (seen f rs) (same_decides f x) (seen_decides f rs))
+  where
+    to : (f ≡ x) ⊎ Contains rs f → Contains (x ∷ rs) f
+    to (inl e) = (0, omega arith, sym e)
+    to (inr (k, l, e)) = (suc k, omega arith, e)
+
+    from : Contains (x ∷ rs) f → (f ≡ x) ⊎ Contains rs f
+    from (zero, l, e) = inl (sym e)
+    from (suc k, l, e) = inr (k, omega arith, e)
 
 -- what `any` answers of packets
 pub seen_from_any : (xs : List Packet) (x : Packet) → list_any (λ y. equal y x) xs ≡ seen (frame_of x) (map frame_of xs)

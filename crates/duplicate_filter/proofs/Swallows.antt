@@ -1,12 +1,12 @@
 -- What the filter's rule means.
 use Rattle.std.proofs.Common.{◌≡◌, ℕ, Bool, map, refl, true, false, ◌⊎◌, List, [], ◌∷◌, ◌++◌, Some, None, Option, sym, ap, ◌∙◌, subst, inl, inr, append_assoc, append-nil, arith}
-use Rattle.std.specs.List.{list_any}
+use Rattle.std.specs.List.{Contains, list_any}
 use Rattle.std.proofs.lemmas.List.{length-map}
 use Rattle.std.proofs.lemmas.Bool.{both_ways, cases_Bool}
 use Rattle.link.specs.declared.Link as link
 use Rattle.link.specs.declared.packet.Packet.{Packet}
 use Rattle.link.proofs.Frames.{equal}
-use Rattle.link.specs.Frames.{Frame, Among}
+use Rattle.link.specs.Frames.{Frame}
 use Rattle.link.specs.Laws.{Call, Put, Take, frames_taken, Run}
 use Rattle.link.specs.Packets.{frame_of, Packed}
 use Rattle.duplicate_filter.specs.declared.filter.DuplicateFilter.{DuplicateFilter}
@@ -38,8 +38,8 @@ module _ (xs : List Packet) (a : ℕ) (b : List ℕ) (r : Option Packet) (x : Pa
 
 -- the two ways of an inner frame
 data Ways (rs : List Frame) (a : ℕ) (b : List ℕ) (o : Option (List ℕ)) (rs' : List Frame) : Type 0 where
-  old : Among (a, b) rs → o ≡ None → rs' ≡ rs → Ways rs a b o rs'
-  fresh : (Among (a, b) rs → ⊥) → o ≡ Some b → rs' ≡ last_eight (rs ++ (a, b) ∷ []) → Ways rs a b o rs'
+  old : Contains rs (a, b) → o ≡ None → rs' ≡ rs → Ways rs a b o rs'
+  fresh : (Contains rs (a, b) → ⊥) → o ≡ Some b → rs' ≡ last_eight (rs ++ (a, b) ∷ []) → Ways rs a b o rs'
 
 ways : (rs rs' : List Frame) (a : ℕ) (b : List ℕ) (o : Option (List ℕ)) → ◌≡◌ {A = Outcome} (o, rs') (filtered rs a (Some b)) → Ways rs a b o rs'
 ways rs rs' a b o e = go (cases_Bool (seen (a, b) rs))
@@ -63,7 +63,7 @@ module _ {L : Type 0} (K : link.Ghosts L) where
           let s : d ≡ b = cc in
           record {
             inner = subst (λ (x : List ℕ). K.takes l.inner a (Some x) l'.inner) s t;
-            fresh = λ m. n (subst (λ (x : List ℕ). Among (a, x) (recent_of l)) (sym s) m);
+            fresh = λ m. n (subst (λ (x : List ℕ). Contains (recent_of l) (a, x)) (sym s) m);
             joined = r ∙ ap (λ x. last_eight (recent_of l ++ (a, x) ∷ [])) s;
           }
 

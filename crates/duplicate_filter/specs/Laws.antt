@@ -1,7 +1,8 @@
 -- What a filter hands out and what it swallows.
 use Rattle.std.specs.Prelude.{◌≡◌, ℕ, ◌≤◌, ◌⊎◌, List, [], ◌∷◌, ◌++◌, length, Some, None, Decides, Option}
+use Rattle.std.specs.List.{Contains}
 use Rattle.link.specs.declared.Link as link
-use Rattle.link.specs.Frames.{Frame, Among}
+use Rattle.link.specs.Frames.{Frame}
 use Rattle.link.specs.Laws.{Call, frames_taken, Run}
 use Rattle.duplicate_filter.specs.declared.filter.DuplicateFilter.{DuplicateFilter}
 use Rattle.duplicate_filter.specs.Repeats.{seen, last_eight}
@@ -11,12 +12,12 @@ module _ {L : Type 0} (K : link.Ghosts L) where
   -- The inner link handed out a frame that is none of the last eight; it is handed on and joins them.
   pub record Passed (l : DuplicateFilter L) (a : ℕ) (b : List ℕ) (l' : DuplicateFilter L) : Type 0 where
     pub inner : K.takes l.inner a (Some b) l'.inner
-    pub fresh : Among (a, b) (recent_of l) → ⊥
+    pub fresh : Contains (recent_of l) (a, b) → ⊥
     pub joined : recent_of l' ≡ last_eight (recent_of l ++ (a, b) ∷ [])
 
   -- The inner link handed out nothing, or a frame that is one of the last eight; these stay.
   pub record Swallowed (l : DuplicateFilter L) (a : ℕ) (l' : DuplicateFilter L) : Type 0 where
-    pub inner : K.takes l.inner a None l'.inner ⊎ ((b : List ℕ) × Among (a, b) (recent_of l) × K.takes l.inner a (Some b) l'.inner)
+    pub inner : K.takes l.inner a None l'.inner ⊎ ((b : List ℕ) × Contains (recent_of l) (a, b) × K.takes l.inner a (Some b) l'.inner)
     pub stay : recent_of l' ≡ recent_of l
 
   -- Two takes of one link answer the same, and leave what means the same.
@@ -24,7 +25,7 @@ module _ {L : Type 0} (K : link.Ghosts L) where
   OneTake mean j a = (j' k' : L) (i k : Option (List ℕ)) → K.takes j a i j' → K.takes j a k k' → (i ≡ k) × (mean j' ≡ mean k')
 
   pub record FilterLaws : Type 0 where
-    pub repeats : (f : Frame) (rs : List Frame) → Decides (seen f rs) (Among f rs)
+    pub repeats : (f : Frame) (rs : List Frame) → Decides (seen f rs) (Contains rs f)
     pub passed : (l l' : DuplicateFilter L) (a : ℕ) (b : List ℕ) → FilterTakes K l a (Some b) l' → Passed l a b l'
     pub swallowed : (l l' : DuplicateFilter L) (a : ℕ) → FilterTakes K l a None l' → Swallowed l a l'
     -- whatever the calls on a new filter, it keeps the last eight frames that it handed out

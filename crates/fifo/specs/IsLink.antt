@@ -1,10 +1,12 @@
 -- What the queue's rules mean, and that it obeys the laws of a link.
 -- It stands here because the impl cites it; there is nothing in it that a reader has to believe.
-use Rattle.std.specs.Prelude.{◌≡◌, ℕ, ◌<◌, ◌≤◌, true, false, ◌||◌, ◌⊎◌, List, [], ◌∷◌, ◌++◌, length, Some, None, Option, ◌==◌, nat_le, nat_lt, refl}
-use Rattle.std.proofs.Common.{sym, ap, ◌∙◌, subst, inl, inr}
+use Rattle.std.specs.Prelude.{◌≡◌, ℕ, zero, suc, ◌<◌, ◌≤◌, true, false, ◌||◌, ◌⊎◌, List, [], ◌∷◌, ◌++◌, length, Some, None, Option, ◌==◌, nat_le, nat_lt, refl}
+use Rattle.std.proofs.Common.{sym, ap, ◌∙◌, subst, inl, inr, arith}
+use Rattle.std.specs.List.{Contains}
+use Rattle.std.proofs.lemmas.List.Elements.{Contains-append_right, Contains-push_cases}
 use Rattle.std.proofs.lemmas.Bool.{both_ways, cases_Bool, cases_lt, eqb-true, eq-eqb, or_left, or_right, or_from, lt-ltb, le-ltb, le-leb, lt-leb}
-use Rattle.link.specs.Frames.{Frame, Among, NoneFor, AfterPut, AfterTake}
-use Rattle.link.proofs.Frames.{among_push, among_mid, among_more, put_lost, put_kept}
+use Rattle.link.specs.Frames.{Frame, NoneFor, AfterPut, AfterTake}
+use Rattle.link.proofs.Frames.{contains_more, put_lost, put_kept}
 use Rattle.fifo.specs.Queues.{fifo_put, fifo_take}
 use Rattle.fifo.specs.Laws.{OldestOf}
 
@@ -30,7 +32,7 @@ module _ (w w' : List Frame) (a : ℕ) (b : List ℕ) (e : w' ≡ fifo_put w a b
     where
       go : (128 < length b) ⊎ (length b ≤ 128) → (length w < 64) ⊎ (64 ≤ length w) → AfterPut w a b w'
       go (inl l) h = put_lost w w' a b (too_long l)
-      go (inr l) (inl h) = put_kept w w' a b l (λ f m. among_push f (a, b) w (subst (Among f) (appended l h) m))
+      go (inr l) (inl h) = put_kept w w' a b l (λ f m. Contains-push_cases w (a, b) f (subst (λ (v : List Frame). Contains v f) (appended l h) m))
       go (inr l) (inr h) = put_lost w w' a b (full h)
 
 -- what a take that answered o means
@@ -39,8 +41,8 @@ Means w a None w' = NoneFor a w × (w' ≡ w)
 Means w a (Some b) w' = OldestOf w a b w'
 
 other : (f : Frame) (w : List Frame) (a : ℕ) → (f.0 == a) ≡ false → NoneFor a w → NoneFor a (f ∷ w)
-other f w a n none b (inl e) = both_ways (f.0 == a) n (eq-eqb f.0 a (ap (λ x. x.0) (sym e)))
-other f w a n none b (inr m) = none b m
+other f w a n none b (zero, l, e) = both_ways (f.0 == a) n (eq-eqb f.0 a (ap (λ x. x.0) e))
+other f w a n none b (suc k, l, e) = none b (k, omega arith, e)
 
 later : (f : Frame) (w w' : List Frame) (a : ℕ) (o : Option (List ℕ)) → (f.0 == a) ≡ false → Means w a o w' → Means (f ∷ w) a o (f ∷ w')
 later f w w' a None n (none, e) = (other f w a n none, ap (λ v. f ∷ v) e)
@@ -53,17 +55,17 @@ later f w w' a (Some b) n s = record {
 }
 
 means : (w : List Frame) (a : ℕ) → Means w a (fifo_take w a).0 (fifo_take w a).1
-means [] a = (λ b m. m, refl)
+means [] a = (λ b m. absurd (omega (arith, m.1)), refl)
 means (f ∷ w) a = go (means w a) (cases_Bool (f.0 == a))
   where
     go : Means w a (fifo_take w a).0 (fifo_take w a).1 → ((f.0 == a) ≡ true) ⊎ ((f.0 == a) ≡ false) → Means (f ∷ w) a (fifo_take (f ∷ w) a).0 (fifo_take (f ∷ w) a).1
     go more (inl t) =
         let e : f.0 ≡ a = eqb-true f.0 a t in
-        rw t (record { before = []; after = w; split = λ i. (e i, f.1) ∷ w; first = λ b m. m; others = refl })
+        rw t (record { before = []; after = w; split = λ i. (e i, f.1) ∷ w; first = λ b m. absurd (omega (arith, m.1)); others = refl })
     go more (inr n) = rw n (later f w (fifo_take w a).1 a (fifo_take w a).0 n more)
 
-pub waited : (w w' : List Frame) (a : ℕ) (b : List ℕ) → OldestOf w a b w' → Among (a, b) w
-waited w w' a b s = subst (Among (a, b)) (sym s.split) (among_mid (a, b) s.before s.after)
+pub waited : (w w' : List Frame) (a : ℕ) (b : List ℕ) → OldestOf w a b w' → Contains w (a, b)
+waited w w' a b s = subst (λ (v : List Frame). Contains v (a, b)) (sym s.split) (Contains-append_right s.before ((a, b) ∷ s.after) (a, b) (0, omega arith, refl))
 
 module _ (w w' : List Frame) (a : ℕ) (o : Option (List ℕ)) (e : (o, w') ≡ fifo_take w a) where
   pub took : Means w a o w'
@@ -73,8 +75,8 @@ module _ (w w' : List Frame) (a : ℕ) (o : Option (List ℕ)) (e : (o, w') ≡ 
   after_take = go o took
     where
       go : (p : Option (List ℕ)) → Means w a p w' → AfterTake w a p w'
-      go None (none, s) = record { waited = λ b q. absurd cc; still = λ f m. subst (Among f) s m }
+      go None (none, s) = record { waited = λ b q. absurd cc; still = λ f m. subst (λ (v : List Frame). Contains v f) s m }
       go (Some b) s = record {
-        waited = λ c q. let same : b ≡ c = cc in subst (λ (x : List ℕ). Among (a, x) w) same (waited w w' a b s);
-        still = λ f m. subst (Among f) (sym s.split) (among_more f (a, b) s.before s.after (subst (Among f) s.others m));
+        waited = λ c q. let same : b ≡ c = cc in subst (λ (x : List ℕ). Contains w (a, x)) same (waited w w' a b s);
+        still = λ f m. subst (λ (v : List Frame). Contains v f) (sym s.split) (contains_more f (a, b) s.before s.after (subst (λ (v : List Frame). Contains v f) s.others m));
       }

@@ -1,5 +1,7 @@
 -- Frames that wait, and what a packet fills: what the links share.
-use Rattle.std.proofs.Common.{◌≡◌, ℕ, Bool, eqb, ◌&&◌, refl, Decides, ◌≤◌, ◌⊎◌, List, [], ◌∷◌, ◌++◌, length, take, sym, ap, ◌∙◌, subst, inl, inr, arith}
+use Rattle.std.proofs.Common.{◌≡◌, ℕ, suc, Bool, eqb, ◌&&◌, refl, Decides, ◌≤◌, ◌⊎◌, List, ◌∷◌, ◌++◌, length, take, sym, ap, ◌∙◌, subst, inl, inr, arith}
+use Rattle.std.specs.List.{Contains}
+use Rattle.std.proofs.lemmas.List.Elements.{Contains-append_left, Contains-append_right, Contains-append_cases}
 use Rattle.std.specs.Cmp.Lexicographic.{pointwise}
 use Rattle.std.proofs.lemmas.Slice.Eq.{slice_eq-Decides}
 use Rattle.std.proofs.lemmas.Bool.Decides.{Decides-and, Decides-eqb, Decides-like}
@@ -7,38 +9,27 @@ use Rattle.bounded.specs.Filled.{filled}
 use Rattle.bounded.proofs.Filled.{front_filled}
 use Rattle.std.proofs.lemmas.List.{take_all}
 use Rattle.link.specs.declared.packet.Packet.{Packet}
-use Rattle.link.specs.Frames.{Frame, Among, AfterPut}
+use Rattle.link.specs.Frames.{Frame, AfterPut}
 use Rattle.link.specs.Packets.{frame_of, Filled}
 
-pub among_push : (f x : Frame) (w : List Frame) → Among f (w ++ x ∷ []) → Among f w ⊎ (f ≡ x)
-among_push f x [] (inl e) = inr e
-among_push f x [] (inr n) = absurd n
-among_push f x (y ∷ w) (inl e) = inl (inl e)
-among_push f x (y ∷ w) (inr m) = go (among_push f x w m)
+-- a frame more in the middle
+pub contains_more : (f x : Frame) (u v : List Frame) → Contains (u ++ v) f → Contains (u ++ x ∷ v) f
+contains_more f x u v m = go (Contains-append_cases u v f m)
   where
-    go : Among f w ⊎ (f ≡ x) → Among f (y ∷ w) ⊎ (f ≡ x)
-    go (inl n) = inl (inr n)
-    go (inr e) = inr e
-
-pub among_mid : (x : Frame) (u v : List Frame) → Among x (u ++ x ∷ v)
-among_mid x [] v = inl refl
-among_mid x (y ∷ u) v = inr (among_mid x u v)
-
-pub among_more : (f x : Frame) (u v : List Frame) → Among f (u ++ v) → Among f (u ++ x ∷ v)
-among_more f x [] v m = inr m
-among_more f x (y ∷ u) v (inl e) = inl e
-among_more f x (y ∷ u) v (inr m) = inr (among_more f x u v m)
+    go : Contains u f ⊎ Contains v f → Contains (u ++ x ∷ v) f
+    go (inl n) = Contains-append_left u (x ∷ v) f n
+    go (inr (k, l, e)) = Contains-append_right u (x ∷ v) f (suc k, omega arith, e)
 
 -- a put that is lost, and one that may be kept
 pub put_lost : (w w' : List Frame) (a : ℕ) (b : List ℕ) → w' ≡ w → AfterPut w a b w'
-put_lost w w' a b e f m = inl (subst (Among f) e m)
+put_lost w w' a b e f m = inl (subst (λ (v : List Frame). Contains v f) e m)
 
-pub put_kept : (w w' : List Frame) (a : ℕ) (b : List ℕ) → length b ≤ 128 → ((f : Frame) → Among f w' → Among f w ⊎ (f ≡ (a, b))) → AfterPut w a b w'
+pub put_kept : (w w' : List Frame) (a : ℕ) (b : List ℕ) → length b ≤ 128 → ((f : Frame) → Contains w' f → Contains w f ⊎ ((a, b) ≡ f)) → AfterPut w a b w'
 put_kept w w' a b fits or f m = go (or f m)
   where
-    go : Among f w ⊎ (f ≡ (a, b)) → Among f w ⊎ ((f ≡ (a, b)) × (length b ≤ 128))
+    go : Contains w f ⊎ ((a, b) ≡ f) → Contains w f ⊎ ((f ≡ (a, b)) × (length b ≤ 128))
     go (inl h) = inl h
-    go (inr e) = inr (e, fits)
+    go (inr e) = inr (sym e, fits)
 
 pub small : (p : Packet) → length (frame_of p).1 ≤ 128
 small p = p.ok

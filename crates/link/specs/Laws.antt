@@ -1,8 +1,9 @@
 -- What layers above may rest on, whatever the link is made of.
 use Rattle.std.specs.Prelude.{◌≡◌, ℕ, ◌<◌, ◌≤◌, true, cond, ◌⊎◌, List, [], ◌∷◌, ◌++◌, length, is_ok, Some, None, Err, Option, Result, nat_le}
+use Rattle.std.specs.List.{Contains}
 use Rattle.values.specs.declared.refusal.Refusal.{Refusal}
 use Rattle.values.specs.declared.refusal.Refusal.TheVariants.{ShortBuffer}
-use Rattle.link.specs.Frames.{Frame, Among, Taken}
+use Rattle.link.specs.Frames.{Frame, Taken}
 
 -- a call that is not refused, with its answer
 pub data Call : Type 0 where
@@ -35,6 +36,6 @@ module _ {L : Type 0} (waiting : L → List Frame) (puts : L → ℕ → List �
         → (r ≡ Err ShortBuffer) × (l' ≡ l) × (buf' ≡ buf)
     pub ample : (l l' : L) (a : ℕ) (buf buf' : List ℕ) (r : Result (Option ℕ) Refusal) → Taken takes l a buf r buf' l' → 128 ≤ length buf → is_ok r ≡ true
     -- whatever the calls, no frame waits that did not wait at first and was not put
-    pub waits : (l l' : L) (cs : List Call) → Run l cs l' → (f : Frame) → Among f (waiting l') → Among f (waiting l) ⊎ Among f (frames_put cs)
+    pub waits : (l l' : L) (cs : List Call) → Run l cs l' → (f : Frame) → Contains (waiting l') f → Contains (waiting l) f ⊎ Contains (frames_put cs) f
     -- what a call hands out waited at first or was put before
-    pub origin : (l l' : L) (cs ds : List Call) (a : ℕ) (b : List ℕ) → Run l (cs ++ Take a (Some b) ∷ ds) l' → Among (a, b) (waiting l) ⊎ Among (a, b) (frames_put cs)
+    pub origin : (l l' : L) (cs ds : List Call) (a : ℕ) (b : List ℕ) → Run l (cs ++ Take a (Some b) ∷ ds) l' → Contains (waiting l) (a, b) ⊎ Contains (frames_put cs) (a, b)

@@ -1,15 +1,16 @@
 -- Which frame a take hands out, and what stays.
-use Rattle.std.proofs.Common.{◌≡◌, ℕ, suc, ◌+◌, ◌-◌, ◌%◌, ◌<◌, ◌≤◌, Bool, false, ltb, ◌⊎◌, List, [], ◌∷◌, length, get_or, Some, None, Option, eqb, ◌≢◌, find, refl, sym, ap, ◌∙◌, subst, inl, inr, arith}
-use Rattle.std.specs.List.{range_with_len, slice_get, position_or_len}
+use Rattle.std.proofs.Common.{◌≡◌, ℕ, ◌+◌, ◌-◌, ◌%◌, ◌<◌, ◌≤◌, Bool, false, ltb, ◌⊎◌, List, length, get_or, Some, None, Option, eqb, ◌≢◌, find, refl, sym, ap, ◌∙◌, subst, inl, inr, arith}
+use Rattle.std.specs.List.{Contains, range_with_len, slice_get, position_or_len}
 use Rattle.std.proofs.lemmas.Option.{slice_get_within, slice_get_cases, get_or_from_slice_get}
+use Rattle.std.proofs.lemmas.List.Elements.{Contains-get_or, at_from_Contains}
 use Rattle.std.proofs.lemmas.List.Folds.{find_at}
 use Rattle.std.proofs.lemmas.List.Sums.{fails_before_first}
 use Rattle.std.proofs.lemmas.List.{length-append, get_or_append_left, get_or-append_right}
 use Rattle.std.proofs.lemmas.List.FromFn.{length-range_with_len, get_or-range_with_len}
 use Rattle.std.proofs.lemmas.Bool.{both_ways, cases_lt, eq-eqb, lt-ltb, and_from}
-use Rattle.link.specs.Frames.{Frame, Among, NoneFor}
-use Rattle.round_robin.specs.IsLink.{at_first, found, among_at, is_taken}
-use Rattle.round_robin.specs.Places.{Places, at, is_to, round_from, round, moved, handed, round_take}
+use Rattle.link.specs.Frames.{Frame, NoneFor}
+use Rattle.round_robin.specs.IsLink.{at_first, found, is_taken}
+use Rattle.round_robin.specs.Places.{Places, no_frame, at, is_to, round_from, round, moved, handed, round_take}
 use Rattle.round_robin.specs.Laws.{Turn}
 
 -- a search that comes to nothing passes every element
@@ -42,25 +43,20 @@ module _ (p : ℕ) (begin : p < 16) where
 is_not : (w : List Frame) (a p : ℕ) → is_to w a p ≡ false → p < length w → (at w p).0 ≢ a
 is_not w a p f l e = both_ways (is_to w a p) f (and_from (ltb p (length w)) (eqb (at w p).0 a) (lt-ltb p (length w) l) (eq-eqb (at w p).0 a e))
 
-place_of : (w : List Frame) (f : Frame) → Among f w → (p : ℕ) × (p < length w) × (at w p ≡ f)
-place_of [] f m = absurd m
-place_of (x ∷ w) f (inl e) = (0, omega arith, sym e)
-place_of (x ∷ w) f (inr m) = let q = place_of w f m in (suc q.0, omega (arith, q.1), q.2)
-
 -- a round over all places passes every one
 none_at : (w : List Frame) (a n : ℕ) → length w ≤ 16 → n < 16 → ((d : ℕ) → d < 16 → is_to w a ((n + d) % 16) ≡ false) → NoneFor a w
 none_at w a n size l past b m =
-    let q = place_of w (a, b) m in
+    let q = at_from_Contains w (a, b) m in
     let e : (n + (q.0 + 16 - n) % 16) % 16 ≡ q.0 = omega (arith, q.1) in
-    is_not w a q.0 (rw e at (past ((q.0 + 16 - n) % 16) (omega arith))) q.1 (ap (λ f. f.0) q.2)
+    is_not w a q.0 (rw e at (past ((q.0 + 16 - n) % 16) (omega arith))) q.1 (ap (λ f. f.0) (q.2 no_frame))
 
 -- what a take that answered o means
 abbrev pub Means : Places → ℕ → Option (List ℕ) → Places → Type 0
 Means m a None m' = NoneFor a m.frames × (m' ≡ m)
 Means m a (Some b) m' = Turn m a b m'
 
-waited : (m m' : Places) (a : ℕ) (b : List ℕ) → Turn m a b m' → Among (a, b) m.frames
-waited m m' a b s = subst (λ (f : Frame). Among f m.frames) s.here (among_at m.frames ((m.next + s.steps) % 16) s.taken)
+waited : (m m' : Places) (a : ℕ) (b : List ℕ) → Turn m a b m' → Contains m.frames (a, b)
+waited m m' a b s = subst (λ (f : Frame). Contains m.frames f) s.here (Contains-get_or m.frames ((m.next + s.steps) % 16) no_frame s.taken)
 
 pub same_frames : (m m' : Places) (a : ℕ) (o : Option (List ℕ)) → Means m a o m' → (m'.frames ≡ m.frames) × (m'.oldest ≡ m.oldest)
 same_frames m m' a None (none, e) = (ap (λ x. x.frames) e, ap (λ x. x.oldest) e)

@@ -1,26 +1,24 @@
 -- That frames at 16 places obey the laws of a link.
 -- It stands here because the impl cites it; there is nothing in it that a reader has to believe.
-use Rattle.std.specs.Prelude.{◌≡◌, ℕ, zero, suc, ◌+◌, ◌%◌, ◌<◌, ◌≤◌, Bool, true, false, ◌⊎◌, List, [], ◌∷◌, ◌++◌, length, Some, None, Option, find, ◌==◌, nat_lt, slice_set, refl}
+use Rattle.std.specs.Prelude.{◌≡◌, ℕ, ◌+◌, ◌%◌, ◌<◌, ◌≤◌, Bool, true, false, ◌⊎◌, List, [], ◌∷◌, ◌++◌, length, Some, None, Option, find, ◌==◌, nat_lt, ◌≢◌, slice_index_or, slice_set, refl}
 use Rattle.std.proofs.Common.{sym, ap, ◌∙◌, subst, inl, inr, arith}
-use Rattle.std.proofs.lemmas.Bool.{cases_lt, eqb-true, ltb-true, lt-ltb, le-ltb, and_parts}
-use Rattle.std.specs.List.{slice_get, position_or_len}
+use Rattle.std.proofs.lemmas.Bool.{cases_eq, cases_lt, eqb-true, ltb-true, lt-ltb, le-ltb, and_parts}
+use Rattle.std.specs.List.{Contains, slice_get, position_or_len}
 use Rattle.std.proofs.lemmas.Option.{slice_get_within, get_or_from_slice_get}
+use Rattle.std.proofs.lemmas.List.{get_or-set_same, get_or-set_other, length-set}
+use Rattle.std.proofs.lemmas.List.Elements.{Contains-get_or, Contains-push_cases}
 use Rattle.std.proofs.lemmas.List.Folds.{find_at}
 use Rattle.std.proofs.lemmas.List.Sums.{passes_at_first}
-use Rattle.link.specs.Frames.{Frame, Among, AfterPut, AfterTake}
-use Rattle.link.proofs.Frames.{among_push, put_lost, put_kept}
-use Rattle.round_robin.specs.Places.{Places, at, round_put, is_to, round_from, round, handed, round_take}
+use Rattle.link.specs.Frames.{Frame, AfterPut, AfterTake}
+use Rattle.link.proofs.Frames.{put_lost, put_kept}
+use Rattle.round_robin.specs.Places.{Places, no_frame, at, round_put, is_to, round_from, round, handed, round_take}
 
-among_set : (f x : Frame) (w : List Frame) (i : ℕ) → Among f (slice_set w i x) → Among f w ⊎ (f ≡ x)
-among_set f x [] i m = absurd m
-among_set f x (y ∷ w) zero (inl e) = inr e
-among_set f x (y ∷ w) zero (inr m) = inl (inr m)
-among_set f x (y ∷ w) (suc i) (inl e) = inl (inl e)
-among_set f x (y ∷ w) (suc i) (inr m) = go (among_set f x w i m)
+contains_set : (f x : Frame) (w : List Frame) (i : ℕ) → Contains (slice_set w i x) f → Contains w f ⊎ (x ≡ f)
+contains_set f x w i (k, l, e) = go (cases_eq k i)
   where
-    go : Among f w ⊎ (f ≡ x) → Among f (y ∷ w) ⊎ (f ≡ x)
-    go (inl n) = inl (inr n)
-    go (inr e) = inr e
+    go : (k ≡ i) ⊎ (k ≢ i) → Contains w f ⊎ (x ≡ f)
+    go (inl h) = inr (sym (get_or-set_same w i x f (omega (arith, length-set w i x))) ∙ ap (λ j. slice_index_or (slice_set w i x) j f) (sym h) ∙ e)
+    go (inr n) = inl (k, omega (arith, length-set w i x), sym (get_or-set_other w i k x f n) ∙ e)
 
 -- the three ways of a put
 pub data Puts (m : Places) (a : ℕ) (b : List ℕ) (m' : Places) : Type 0 where
@@ -49,8 +47,8 @@ after_put m m' a b e = go (puts m m' a b e)
   where
     go : Puts m a b m' → AfterPut m.frames a b m'.frames
     go (lost l h) = put_lost m.frames m'.frames a b (ap (λ x. x.frames) h)
-    go (added l h s o n) = put_kept m.frames m'.frames a b l (λ f k. among_push f (a, b) m.frames (subst (Among f) s k))
-    go (replaced l h s o n) = put_kept m.frames m'.frames a b l (λ f k. among_set f (a, b) m.frames m.oldest (subst (Among f) s k))
+    go (added l h s o n) = put_kept m.frames m'.frames a b l (λ f k. Contains-push_cases m.frames (a, b) f (subst (λ (v : List Frame). Contains v f) s k))
+    go (replaced l h s o n) = put_kept m.frames m'.frames a b l (λ f k. contains_set f (a, b) m.frames m.oldest (subst (λ (v : List Frame). Contains v f) s k))
 
 -- what a search finds, at the first place that passes the test
 pub at_first : {X : Type 0} (test : X → Bool) (xs : List X) (x : X) → find test xs ≡ Some x → slice_get xs (position_or_len test xs) ≡ Some x
@@ -62,17 +60,12 @@ found test xs x e =
     let s = at_first test xs x e in
     ap test (sym (get_or_from_slice_get xs n x x s)) ∙ passes_at_first test xs x (slice_get_within xs n x s)
 
-pub among_at : (w : List Frame) (p : ℕ) → p < length w → Among (at w p) w
-among_at [] p l = absurd (omega arith)
-among_at (x ∷ w) zero l = inl refl
-among_at (x ∷ w) (suc p) l = inr (among_at w p (omega arith))
-
 pub is_taken : (w : List Frame) (a p : ℕ) → is_to w a p ≡ true → (p < length w) × ((at w p).0 ≡ a)
 is_taken w a p t = let q = and_parts (nat_lt p (length w)) ((at w p).0 == a) t in (ltb-true p (length w) q.0, eqb-true (at w p).0 a q.1)
 
 after : (m : Places) (a : ℕ) (r : Option ℕ) → ((p : ℕ) → r ≡ Some p → is_to m.frames a p ≡ true) → AfterTake m.frames a (handed m r).0 (handed m r).1.frames
 after m a None h = record { waited = λ b e. absurd cc; still = λ f k. k }
-after m a (Some p) h = record { waited = λ b e. subst (λ (f : Frame). Among f m.frames) (here b cc) (among_at m.frames p q.0); still = λ f k. k }
+after m a (Some p) h = record { waited = λ b e. subst (λ (f : Frame). Contains m.frames f) (here b cc) (Contains-get_or m.frames p no_frame q.0); still = λ f k. k }
   where
     q : (p < length m.frames) × ((at m.frames p).0 ≡ a)
     q = is_taken m.frames a p (h p refl)
