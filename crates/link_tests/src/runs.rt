@@ -5,6 +5,8 @@ use std::process::Abort;
 use std::test::Fail;
 use values::refusal::Refusal;
 
+const ADDRESSES: [u32; 4] = [0, 1, 256, u32::MAX];
+
 // Numbers that look like chance.
 #[derive(Drop)]
 struct Chance(u32);
@@ -34,7 +36,7 @@ fn take_from_both<L: Link, R: Rule>(
     Ok(())
 }
 
-// Puts and takes in turn, so many of ten are puts, and in the end takes until much has come back. There are few frames, so that equal ones meet.
+// Puts and takes by chance, of ten so many puts, and at the end takes for each address in turn. The frames are of few kinds, so that equal ones meet.
 pub fn run<L: Link + Drop, R: Rule + Drop>(
     rt: &impl Abort,
     mut link: L,
@@ -44,7 +46,7 @@ pub fn run<L: Link + Drop, R: Rule + Drop>(
 ) -> Result<(), Fail> {
     let mut chance = Chance(seed);
     for _ in 0..2000u32 {
-        let to = [0, 1, 258, u32::MAX][chance.next() as usize % 4];
+        let to = ADDRESSES[chance.next() as usize % 4];
         if chance.next() % 10 < puts_of_ten {
             let len = [0, 1, 1, 2, 64, 127, 128, 129][chance.next() as usize % 8];
             let frame = [(chance.next() % 4) as u8; 129];
@@ -56,7 +58,7 @@ pub fn run<L: Link + Drop, R: Rule + Drop>(
         }
     }
     for i in 0..80usize {
-        take_from_both(rt, &mut link, &mut rule, [0, 1, 258, u32::MAX][i % 4], 128)?;
+        take_from_both(rt, &mut link, &mut rule, ADDRESSES[i % 4], 128)?;
     }
     Ok(())
 }

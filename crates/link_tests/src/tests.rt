@@ -80,7 +80,7 @@ fn round_robin_replaces_the_oldest_in_its_place(rt: HostRuntime) -> Result<(), F
     takes(&rt, &mut link, 1, b"defghijklmnopqbc");
     puts(&mut link, 1, b"rst");
     takes(&rt, &mut link, 1, b"tefghijklmnopqrst");
-    // So is the place of e, for a frame with another address.
+    // The place of e is the next one, and gets a frame for another address.
     puts(&mut link, 2, b"u");
     takes(&rt, &mut link, 1, b"f");
     takes(&rt, &mut link, 2, b"uu");
@@ -100,23 +100,23 @@ fn round_robin_keeps_the_last_16_of_many(rt: HostRuntime) -> Result<(), Fail> {
     Ok(())
 }
 
-// The frames a to i are nine. What is held back is gone, and is not handed out anew thereby.
-fn holds_back_the_last_eight<L: Link>(rt: &impl Abort, link: &mut L) {
-    puts(link, 1, b"abcdefghahiab");
-    takes(rt, link, 1, b"abcdefgh");
-    takes_nothing(rt, link, 1);
-    takes_nothing(rt, link, 1);
-    takes(rt, link, 1, b"iab");
-    takes_nothing(rt, link, 1);
+// The ninth-last is handed out again. What is held back is gone from the queue below, and counts for none of the eight.
+fn holds_back_the_last_eight<L: Link + Drop>(rt: &impl Abort, mut link: L) {
+    puts(&mut link, 1, b"abcdefghahiab");
+    takes(rt, &mut link, 1, b"abcdefgh");
+    takes_nothing(rt, &mut link, 1);
+    takes_nothing(rt, &mut link, 1);
+    takes(rt, &mut link, 1, b"iab");
+    takes_nothing(rt, &mut link, 1);
 }
 
 #[test]
 fn filter_over_fifo_holds_back_the_last_eight(rt: HostRuntime) -> Result<(), Fail> {
     let heap = rt.alloc();
-    let mut once = DuplicateFilter::new(heap, Fifo::new(heap)?)?;
-    holds_back_the_last_eight(&rt, &mut once);
-    let mut twice = DuplicateFilter::new(heap, DuplicateFilter::new(heap, Fifo::new(heap)?)?)?;
-    holds_back_the_last_eight(&rt, &mut twice);
+    let filter = DuplicateFilter::new(heap, Fifo::new(heap)?)?;
+    holds_back_the_last_eight(&rt, filter);
+    let filter = DuplicateFilter::new(heap, Fifo::new(heap)?)?;
+    holds_back_the_last_eight(&rt, DuplicateFilter::new(heap, filter)?);
     Ok(())
 }
 
@@ -128,7 +128,7 @@ fn filter_over_round_robin_holds_back_the_last_eight(rt: HostRuntime) -> Result<
     takes(&rt, &mut link, 1, b"abcdefgh");
     takes_nothing(&rt, &mut link, 1);
     takes_nothing(&rt, &mut link, 1);
-    // The round is at c. The ninth frame drives out the first of the eight, and that one the next.
+    // The round is at c and meets six more that are held back. Of nine each is the ninth-last when its turn comes.
     puts(&mut link, 1, b"i");
     for _ in 0..6u8 {
         takes_nothing(&rt, &mut link, 1);
@@ -196,24 +196,21 @@ fn short_buffer_is_number_19(rt: HostRuntime) {
     assert_eq!(rt; Refusal::ShortBuffer.value(), None);
 }
 
-#[test]
-fn every_link_carries_frames_whole(rt: HostRuntime) -> Result<(), Fail> {
-    let heap = rt.alloc();
-    let mut fifo = Fifo::new(heap)?;
-    let mut round_robin = RoundRobin::new(heap)?;
-    let mut over_fifo = DuplicateFilter::new(heap, Fifo::new(heap)?)?;
-    let mut over_round_robin = DuplicateFilter::new(heap, RoundRobin::new(heap)?)?;
-    whole(&rt, &mut fifo);
-    whole(&rt, &mut round_robin);
-    whole(&rt, &mut over_fifo);
-    whole(&rt, &mut over_round_robin);
-    Ok(())
+// What links of all three kinds do alike.
+fn common_rules<L: Link + Drop>(rt: &impl Abort, mut link: L) {
+    tells_frames_apart(rt, &mut link);
+    carries_up_to_128_bytes(rt, &mut link);
+    refuses_short_buffers(rt, &mut link);
 }
 
-fn whole<L: Link>(rt: &impl Abort, link: &mut L) {
-    tells_frames_apart(rt, link);
-    carries_up_to_128_bytes(rt, link);
-    refuses_short_buffers(rt, link);
+#[test]
+fn every_link_keeps_the_common_rules(rt: HostRuntime) -> Result<(), Fail> {
+    let heap = rt.alloc();
+    common_rules(&rt, Fifo::new(heap)?);
+    common_rules(&rt, RoundRobin::new(heap)?);
+    common_rules(&rt, DuplicateFilter::new(heap, Fifo::new(heap)?)?);
+    common_rules(&rt, DuplicateFilter::new(heap, RoundRobin::new(heap)?)?);
+    Ok(())
 }
 
 // The run on a link of each kind.
@@ -235,13 +232,9 @@ fn all_run(rt: &impl Abort, heap: Global, puts_of_ten: u32, seed: u32) -> Result
 }
 
 #[test]
-fn runs_with_more_puts_than_takes(rt: HostRuntime) -> Result<(), Fail> {
-    all_run(&rt, rt.alloc(), 6, 1)?;
-    all_run(&rt, rt.alloc(), 9, 2)
-}
-
-#[test]
-fn runs_with_more_takes_than_puts(rt: HostRuntime) -> Result<(), Fail> {
-    all_run(&rt, rt.alloc(), 5, 3)?;
-    all_run(&rt, rt.alloc(), 2, u32::MAX)
+fn long_runs_follow_the_rules(rt: HostRuntime) -> Result<(), Fail> {
+    for (puts_of_ten, seed) in [(2, 1), (5, 2), (6, 3), (9, u32::MAX)] {
+        all_run(&rt, rt.alloc(), puts_of_ten, seed)?;
+    }
+    Ok(())
 }
