@@ -100,13 +100,19 @@ fn round_robin_keeps_the_last_16_of_many(rt: HostRuntime) -> Result<(), Fail> {
     Ok(())
 }
 
-// The ninth-last is handed out again. What is held back is gone from the queue below, and counts for none of the eight.
+// Over a link that hands out each frame once, the oldest first.
 fn holds_back_the_last_eight<L: Link + Drop>(rt: &impl Abort, mut link: L) {
-    puts(&mut link, 1, b"abcdefghahiab");
+    puts(&mut link, 1, b"abcdefghai");
     takes(rt, &mut link, 1, b"abcdefgh");
     takes_nothing(rt, &mut link, 1);
+    takes(rt, &mut link, 1, b"i");
+    // The a that was held back is gone: else it would be handed out here, as the ninth-last.
     takes_nothing(rt, &mut link, 1);
-    takes(rt, &mut link, 1, b"iab");
+    puts(&mut link, 1, b"abdc");
+    takes(rt, &mut link, 1, b"ab");
+    // Now d is the eighth-last, and c the ninth-last.
+    takes_nothing(rt, &mut link, 1);
+    takes(rt, &mut link, 1, b"c");
     takes_nothing(rt, &mut link, 1);
 }
 
