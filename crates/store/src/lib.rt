@@ -56,13 +56,13 @@ pub trait Store {
         ensures { result ≡ (table self.now).look key };
 
     // The null row for a key that is not held.
-    final fn get(&self, key: u32) -> Row
+    fn get(&self, key: u32) -> Row
         ensures { result ≡ row_of (table self.now) key }
     {
         self.find(key).unwrap_or_default()
     }
 
-    final fn holds(&self, key: u32) -> bool
+    fn holds(&self, key: u32) -> bool
         ensures { result ≡ has (table self.now) key }
     {
         self.find(key).is_some()
