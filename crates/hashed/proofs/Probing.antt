@@ -1,6 +1,5 @@
 -- Searches among the places, one step on and after a slot is set.
-use Rattle.std.proofs.Common.{◌≡◌, ℕ, zero, suc, ◌+◌, ◌-◌, ◌%◌, ◌<◌, ◌≤◌, true, false, cond, eqb, ◌≢◌, ◌⊎◌, List, [], ◌∷◌, length, set, is_some, Some, None, Option, option_map, unwrap_or, map, refl, sym, ap, ◌∙◌, subst, inl, inr, arith}
-use Rattle.std.specs.List.{range_with_len, find as first_of}
+use Rattle.std.proofs.Common.{◌≡◌, ℕ, zero, suc, ◌+◌, ◌-◌, ◌%◌, ◌<◌, ◌≤◌, true, false, cond, eqb, ◌≢◌, ◌⊎◌, List, [], ◌∷◌, length, set, is_some, Some, None, refl, sym, ap, ◌∙◌, subst, inl, inr, arith}
 use Rattle.std.proofs.lemmas.List.{get_or-set_same, get_or-set_other}
 use Rattle.std.proofs.lemmas.Bool.Decides.{nat_tests}
 use Rattle.std.proofs.lemmas.Bool.{cases_eq, cases_lt, cases_Bool, eqb-true}
@@ -20,37 +19,23 @@ pub seek_end : (xs : List Slot) (k p : ℕ) → seek xs k zero p ≡ p
 unfolding seek
 seek_end xs k p = refl
 
--- n places in turn, from the one a places after s on
-abbrev pub round : ℕ → ℕ → ℕ → List ℕ
-round s a n = map (λ i. (s + i) % 128) (range_with_len a n)
+-- a search that has come i places round from s
+module _ (xs : List Slot) (k s i : ℕ) where
+  pub round_stop : i < 128 → stops (at xs ((s + i) % 128)) k ≡ true → seek xs k (128 - i) ((s + i) % 128) ≡ (s + i) % 128
+  round_stop h t = let e : 128 - i ≡ suc (127 - i) = omega arith in rw e (seek_stop xs k (127 - i) ((s + i) % 128) t)
 
-seek_round : (xs : List Slot) (k s a n : ℕ) → seek xs k n ((s + a) % 128) ≡ unwrap_or (first_of (λ p. stops (at xs p) k) (round s a n)) ((s + (a + n)) % 128)
-seek_round xs k s a zero = seek_end xs k ((s + a) % 128) ∙ omega arith
-seek_round xs k s a (suc n) = go (cases_Bool (stops (at xs ((s + a) % 128)) k)) (seek_round xs k s (a + 1) n)
-  where
-    go : (stops (at xs ((s + a) % 128)) k ≡ true) ⊎ (stops (at xs ((s + a) % 128)) k ≡ false)
-        → seek xs k n ((s + (a + 1)) % 128) ≡ unwrap_or (first_of (λ p. stops (at xs p) k) (round s (a + 1) n)) ((s + (a + 1 + n)) % 128)
-        → seek xs k (suc n) ((s + a) % 128) ≡ unwrap_or (first_of (λ p. stops (at xs p) k) (round s a (suc n))) ((s + (a + suc n)) % 128)
-    go (inl t) e = seek_stop xs k n ((s + a) % 128) t ∙ rw t refl
-    go (inr f) e =
-        let on : ((s + a) % 128 + 1) % 128 ≡ (s + (a + 1)) % 128 = omega arith in
-        let far : (s + (a + 1 + n)) % 128 ≡ (s + (a + suc n)) % 128 = omega arith in
-        seek_go xs k n ((s + a) % 128) f ∙ rw (on, f, ← far) e
+  pub round_go : i < 128 → stops (at xs ((s + i) % 128)) k ≡ false → seek xs k (128 - i) ((s + i) % 128) ≡ seek xs k (128 - (i + 1)) ((s + (i + 1)) % 128)
+  round_go h f =
+      let e : 128 - i ≡ suc (127 - i) = omega arith in
+      let d : 128 - (i + 1) ≡ 127 - i = omega arith in
+      let on : ((s + i) % 128 + 1) % 128 ≡ (s + (i + 1)) % 128 = omega arith in
+      rw (e, d, ← on) (seek_go xs k (127 - i) ((s + i) % 128) f)
 
--- the first place of all, from the key's first one round, where the search stops
-pub first_place : (xs : List Slot) (k : ℕ) (r : Option ℕ) → option_map (λ p. p) r ≡ first_of (λ p. stops (at xs p) k) (round (home_of k) 0 128)
-    → unwrap_or r (home_of k) ≡ place_of xs k
-first_place xs k r e = same r e ∙ sym (ap (λ p. seek xs k 128 p) start ∙ seek_round xs k (home_of k) 0 128 ∙ ap (λ p. unwrap_or (first_of (λ p. stops (at xs p) k) (round (home_of k) 0 128)) p) end)
-  where
-    start : home_of k ≡ (home_of k + 0) % 128
-    start = omega arith
-
-    end : (home_of k + (0 + 128)) % 128 ≡ home_of k
-    end = omega arith
-
-    same : (r : Option ℕ) → option_map (λ p. p) r ≡ first_of (λ p. stops (at xs p) k) (round (home_of k) 0 128) → unwrap_or r (home_of k) ≡ unwrap_or (first_of (λ p. stops (at xs p) k) (round (home_of k) 0 128)) (home_of k)
-    same None e = ap (λ o. unwrap_or o (home_of k)) e
-    same (Some p) e = ap (λ o. unwrap_or o (home_of k)) e
+  pub round_end : s < 128 → i ≡ 128 → seek xs k (128 - i) ((s + i) % 128) ≡ s
+  round_end h q =
+      let e : 128 - i ≡ 0 = omega arith in
+      let p : (s + i) % 128 ≡ s = omega arith in
+      rw (e, p) (seek_end xs k s)
 
 keyed_stops : (s : Slot) (k : ℕ) → keyed s k ≡ true → stops s k ≡ true
 keyed_stops None k h = refl

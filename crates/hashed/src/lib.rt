@@ -27,10 +27,13 @@ fn place(slots: &[Option<Entry>; 128], key: u32) -> usize
     ensures ends { result ≡ place_of slots.now key }
 {
     let first = home(key);
-    (0..128)
-        .map(|i| (first + i) % 128)
-        .find(|p| slots[*p].is_none_or(|entry| entry.key == key))
-        .unwrap_or(first)
+    for steps in 0..128 {
+        let p = (first + steps) % 128;
+        if slots[p].is_none_or(|entry| entry.key == key) {
+            return p;
+        }
+    }
+    first
 }
 
 impl Hashed {
