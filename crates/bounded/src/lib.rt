@@ -28,7 +28,6 @@ impl Blank for u8 {
 pub struct Full;
 
 // At most N items, copied freely, which the kit's ArrayVec is not. Unused places are blank, so that equal lists are equal values.
-#[derive(PartialEq, Eq)]
 pub struct Bounded<T: Blank, const N: usize> {
     places: [T; N],
     len: usize,
@@ -53,6 +52,25 @@ impl<T: Blank, const N: usize> Model for Bounded<T, N> {
     ghost use Rattle.bounded.specs.Count.{count_filled};
 
     ghost inverse_ok = { λ b h. λ i. record { places = sym h.1 i; len = count_filled N b.len T.blank b.places h.0 h.1 i } };
+}
+
+// Two lists are equal if their items are. By hand, since a derived one would compare the blanks behind them too.
+impl<T: Blank + PartialEq, const N: usize> PartialEq for Bounded<T, N> {
+    ghost use Rattle.std.specs.Cmp.Lexicographic.{pointwise, lists_per};
+
+    ghost eq = { pointwise T.PartialEq.eq };
+
+    ghost laws = { lists_per T.PartialEq.laws };
+
+    fn eq(&self, other: &Self) -> bool {
+        self.as_slice() == other.as_slice()
+    }
+}
+
+impl<T: Blank + Eq, const N: usize> Eq for Bounded<T, N> {
+    ghost use Rattle.std.specs.Cmp.Lexicographic.{lists_equiv};
+
+    ghost laws = { lists_equiv T.Eq.laws };
 }
 
 impl<T: Blank, const N: usize> Copy for Bounded<T, N> {}
@@ -113,9 +131,11 @@ impl<T: Blank, const N: usize> Bounded<T, N> {
         if items.len() > N - self.len {
             return Err(Full);
         }
-        for item in items {
-            self.push(*item).unwrap();
-        }
+        let start = self.len;
+        let end = start + items.len();
+        let places = &mut self.places[..];
+        places[start..end].copy_from_slice(items);
+        self.len = end;
         Ok(())
     }
 

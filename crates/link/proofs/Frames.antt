@@ -5,8 +5,6 @@ use Rattle.std.proofs.lemmas.List.Elements.{Contains-append_left, Contains-appen
 use Rattle.std.specs.Cmp.Lexicographic.{pointwise}
 use Rattle.std.proofs.lemmas.Slice.Eq.{slice_eq-Decides}
 use Rattle.std.proofs.lemmas.Bool.Decides.{Decides-and, Decides-eqb, Decides-like}
-use Rattle.bounded.specs.Filled.{filled}
-use Rattle.bounded.proofs.Filled.{front_filled}
 use Rattle.std.proofs.lemmas.List.{take_all}
 use Rattle.link.specs.declared.packet.Packet.{Packet}
 use Rattle.link.specs.Frames.{Frame, AfterPut}
@@ -42,18 +40,11 @@ module _ (p : Packet) (buf buf' : List ℕ) (n : ℕ) (room : 128 ≤ length buf
   pub fits : n ≤ 128
   fits = omega (arith, small p, f.size)
 
--- what `==` computes of bytes that are filled up with zeros, and of packets
-abbrev pub same_bytes : ℕ → List ℕ → List ℕ → Bool
-same_bytes n xs ys = pointwise eqb (filled n 0 xs) (filled n 0 ys) && eqb (length xs) (length ys)
-
+-- what `==` computes of packets
 abbrev pub equal : Packet → Packet → Bool
-equal p q = eqb p.to q.to && same_bytes 128 p.bytes q.bytes
-
-same_bytes-Decides : (n : ℕ) (xs ys : List ℕ) → Decides (same_bytes n xs ys) (xs ≡ ys)
-same_bytes-Decides n xs ys =
-    Decides-like (same_bytes n xs ys) (λ (e, l). sym (front_filled n 0 xs _ refl) ∙ (λ i. take (l i) (e i)) ∙ front_filled n 0 ys _ refl) (λ e. (ap (filled n 0) e, ap length e))
-    (Decides-and _ _ (slice_eq-Decides Decides-eqb (filled n 0 xs) (filled n 0 ys) _ refl) (Decides-eqb (length xs) (length ys)))
+equal p q = eqb p.to q.to && pointwise eqb p.bytes q.bytes
 
 pub same : (p q : Packet) → Decides (equal p q) (frame_of p ≡ frame_of q)
 same p q =
-    Decides-like (equal p q) (λ (a, b). λ i. (a i, b i)) (λ e. (ap (λ f. f.0) e, ap (λ f. f.1) e)) (Decides-and _ _ (Decides-eqb p.to q.to) (same_bytes-Decides 128 p.bytes q.bytes))
+    Decides-like (equal p q) (λ (a, b). λ i. (a i, b i)) (λ e. (ap (λ f. f.0) e, ap (λ f. f.1) e))
+    (Decides-and _ _ (Decides-eqb p.to q.to) (slice_eq-Decides Decides-eqb p.bytes q.bytes _ refl))
