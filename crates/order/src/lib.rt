@@ -7,12 +7,12 @@ ghost use Rattle.order.specs.Extremes.{Greatest, Least, precedes};
 pub fn greatest<T: Ord + Copy>(xs: &[T]) -> Option<T>
     ensures { Greatest (precedes T.cmp) xs.now result }
 {
-    xs.iter().copied().max()
+    xs.iter().max().copied()
 }
 
 // An element that none falls below; none for an empty list.
 pub fn least<T: Ord + Copy>(xs: &[T]) -> Option<T>
     ensures { Least (precedes T.cmp) xs.now result }
 {
-    xs.iter().copied().min()
+    xs.iter().min().copied()
 }
