@@ -15,28 +15,25 @@ use Rattle.values.specs.Times.{timestamp, before}
 abbrev by_number : Outcome → Outcome → Ordering
 by_number = on outcome_number nat_cmp
 
-same_outcome : (o p : Outcome) → by_number o p ≡ Equal → o ≡ p
+pub same_outcome : (o p : Outcome) → outcome_number o ≡ outcome_number p → o ≡ p
 same_outcome Abort Abort e = refl
-same_outcome Abort Commit e = cc
-same_outcome Commit Abort e = cc
+same_outcome Abort Commit e = absurd (omega arith)
+same_outcome Commit Abort e = absurd (omega arith)
 same_outcome Commit Commit e = refl
 
 outcomes : Ranks sooner by_number
-outcomes = record { laws = on_total outcome_number nat_cmp_total; same = same_outcome; tells = λ o p. grind (arith, nat_tests) }
+outcomes = record { laws = on_total outcome_number nat_cmp_total; same = λ o p e. same_outcome o p (grind (arith, nat_tests)); tells = λ o p. grind (arith, nat_tests) }
 
 abbrev by_view : (Outcome → Outcome → Ordering) → Proposal → Proposal → Ordering
 by_view cmp = then_cmp (on (λ (p : Proposal). p.view) nat_cmp) (on (λ (p : Proposal). p.outcome) cmp)
 
-same_proposal : (p q : Proposal) → by_view by_number p q ≡ Equal → p ≡ q
-same_proposal p q e = λ i. record { view = views i; outcome = same_outcome p.outcome q.outcome (grind (arith, nat_tests)) i }
-  where
-    views : p.view ≡ q.view
-    views = grind (arith, nat_tests)
+pub same_proposal : (p q : Proposal) → p.view ≡ q.view → outcome_number p.outcome ≡ outcome_number q.outcome → p ≡ q
+same_proposal p q v o = λ i. record { view = v i; outcome = same_outcome p.outcome q.outcome o i }
 
 proposals : Ranks lower (by_view by_number)
 proposals = record {
   laws = then_total (on_total (λ (p : Proposal). p.view) nat_cmp_total) (on_total (λ (p : Proposal). p.outcome) outcomes.laws);
-  same = same_proposal;
+  same = λ p q e. same_proposal p q (grind (arith, nat_tests)) (grind (arith, nat_tests));
   tells = λ p q. grind (arith, nat_tests);
 }
 
