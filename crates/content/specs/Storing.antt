@@ -21,3 +21,8 @@ Restored s (Ok c) = (restorable s ≡ true) × (body c ≡ stored_body s)
 -- the numbers of a content give that content back
 abbrev pub RestoresStored : Type 0
 RestoresStored = (s : StoredContent) (r : Result Content Unsound) (c : Content) → Restored s r → s ≡ stored c → r ≡ Ok c
+
+-- what a restoring answers: the content that says what the numbers say, and of a content's numbers that very content
+pub record Restores (s : StoredContent) (r : Result Content Unsound) : Type 0 where
+  pub restored : Restored s r
+  pub back : (c : Content) → s ≡ stored c → r ≡ Ok c

@@ -1,5 +1,5 @@
 ghost use Rattle.std.specs.Prelude.{◌≡◌, Some};
-ghost use Rattle.content.specs.Storing.{stored, Restored, RestoresStored};
+ghost use Rattle.content.specs.Storing.{stored, Restores, RestoresStored};
 
 use crate::content::Content;
 use crate::rows::{Read, Write};
@@ -30,7 +30,7 @@ impl From<&Content> for StoredContent {
 impl TryFrom<&StoredContent> for Content {
     type Error = Unsound;
 
-    ghost try_from_gives = { λ s r. Restored s.now r };
+    ghost try_from_gives = { λ s r. Restores s.now r };
 
     fn try_from(stored: &StoredContent) -> Result<Content, Unsound> {
         let reads = stored.reads.as_slice();
