@@ -1,11 +1,11 @@
 -- Hex digits, and the bytes that they spell.
-use Rattle.std.proofs.Common.{◌≡◌, ℕ, zero, suc, ◌+◌, ◌*◌, ◌/◌, ◌%◌, ◌<◌, true, cond, eqb, ltb, List, [], ◌∷◌, length, get_or, Some, None, Ok, Err, codes, Option, Result, sym, refl, ap, ◌∙◌, subst, inl, inr, ⊎_elim, arith, eqb-true, MatchResult}
-use Rattle.std.proofs.lemmas.Bool.{cases_eq, agree_below_at}
+use Rattle.std.proofs.Common.{◌≡◌, ℕ, zero, suc, ◌+◌, ◌-◌, ◌*◌, ◌%◌, ◌<◌, ◌≤◌, true, cond, eqb, ltb, List, [], ◌∷◌, ◌++◌, length, get_or, take, drop, Some, None, Ok, codes, Option, Result, sym, refl, ap, ◌∙◌, subst, inl, inr, ⊎_elim, arith, eqb-true, append_assoc, append-nil}
+use Rattle.std.proofs.lemmas.List.{take_all}
+use Rattle.std.proofs.lemmas.Bool.{agree_below_at}
 use Rattle.std.proofs.lemmas.Bool.Decides.{nat_tests}
-use Rattle.std.specs.Bool.{then_some}
 use Rattle.std.specs.Option.{option_map}
-use Rattle.std.specs.Result.{is_ok}
-use Rattle.hex.proofs.HexLemmas.{decode_of-even, decode_sized-odd, decode_sized-twice}
+use Rattle.std.specs.Result.{result_ok}
+use Rattle.hex.proofs.HexLemmas.{decode_of-even, decode_sized-twice}
 use Rattle.hex.specs.Hex.{hex_digit_value, digit_or_error, decode_pairs, decode_sized, ◌>>=◌}
 use Rattle.hex.specs.declared.error.FromHexError.{FromHexError}
 use Rattle.inspection.specs.Spelling.{digit, paired, byte, onto, unhex, Stands, Pair, Hex}
@@ -14,28 +14,79 @@ use Rattle.inspection.specs.Spelling.{digit, paired, byte, onto, unhex, Stands, 
 same_digit : (c : ℕ) → hex_digit_value c ≡ digit c
 same_digit c = grind (arith, nat_tests)
 
--- what is read of two characters and of those behind them
+-- what the crate `hex` reads of two characters
 pair_read :
-    (c d i : ℕ) (p q : Option ℕ) (r : Result (List ℕ) FromHexError) (o : Option (List ℕ)) → MatchResult r (λ bs. o ≡ Some bs) (λ e. o ≡ None)
-    → MatchResult ((digit_or_error c i p >>= (λ h. digit_or_error d (i + 1) q >>= (λ l. Ok (h * 16 + l)))) >>= (λ b. r >>= (λ bs. Ok (b ∷ bs))))
-    (λ bs. onto (paired p q) o ≡ Some bs) (λ e. onto (paired p q) o ≡ None)
-pair_read c d i None q r o m = refl
-pair_read c d i (Some x) None r o m = refl
-pair_read c d i (Some x) (Some y) (Ok bs) o m =
-    let e : 16 * x + y ≡ x * 16 + y = omega arith in
-    ap (onto (Some (16 * x + y))) m ∙ ap (λ (n : ℕ). Some (n ∷ bs)) e
-pair_read c d i (Some x) (Some y) (Err e) o m = ap (onto (Some (16 * x + y))) m
+    (c d i : ℕ) (p q : Option ℕ)
+    → result_ok ((digit_or_error c i p >>= (λ h. digit_or_error d (i + 1) q >>= (λ l. Ok (h * 16 + l)))) >>= (λ b. Ok (b ∷ []))) ≡ option_map (λ b. b ∷ []) (paired p q)
+pair_read c d i None q = refl
+pair_read c d i (Some x) None = refl
+pair_read c d i (Some x) (Some y) = let e : x * 16 + y ≡ 16 * x + y = omega arith in ap (λ (n : ℕ). Some (n ∷ [])) e
 
-pairs_read : (i : ℕ) (cs : List ℕ) → MatchResult (decode_pairs i cs) (λ bs. unhex cs ≡ Some bs) (λ e. unhex cs ≡ None)
+pairs_read : (c d : ℕ) → result_ok (decode_pairs 0 (c ∷ d ∷ [])) ≡ option_map (λ b. b ∷ []) (byte c d)
 unfolding decode_pairs
-pairs_read i [] = refl
-pairs_read i (c ∷ []) = refl
-pairs_read i (c ∷ d ∷ cs) =
-    subst (λ (o : Option ℕ). MatchResult (decode_pairs i (c ∷ d ∷ cs)) (λ bs. onto o (unhex cs) ≡ Some bs) (λ e. onto o (unhex cs) ≡ None))
-    (λ j. paired (same_digit c j) (same_digit d j))
-    (pair_read c d i (hex_digit_value c) (hex_digit_value d) (decode_pairs (i + 2) cs) (unhex cs) (pairs_read (i + 2) cs))
+pairs_read c d =
+    subst (λ (o : Option ℕ). result_ok (decode_pairs 0 (c ∷ d ∷ [])) ≡ option_map (λ b. b ∷ []) o) (λ j. paired (same_digit c j) (same_digit d j))
+    (pair_read c d 0 (hex_digit_value c) (hex_digit_value d))
 
-unhex_odd : (cs : List ℕ) → length cs % 2 ≡ 1 → unhex cs ≡ None
+byte_read : (c d : ℕ) → result_ok (decode_sized (c ∷ d ∷ []) 1) ≡ option_map (λ b. b ∷ []) (byte c d)
+byte_read c d = ap result_ok (decode_sized-twice (c ∷ d ∷ []) 1 refl ∙ decode_of-even (c ∷ d ∷ []) refl) ∙ pairs_read c d
+
+module _ (c d : ℕ) (r : Result (List ℕ) FromHexError) (read : r ≡ decode_sized (c ∷ d ∷ []) 1) where
+  pub byte_there : (bs : List ℕ) → result_ok r ≡ Some bs → Some (get_or bs 0 0) ≡ byte c d
+  byte_there bs e = one (byte c d) (sym (byte_read c d) ∙ ap result_ok (sym read) ∙ e)
+    where
+      one : (o : Option ℕ) → option_map (λ b. b ∷ []) o ≡ Some bs → Some (get_or bs 0 0) ≡ o
+      one None e = cc
+      one (Some x) e = let g : x ∷ [] ≡ bs = cc in ap (λ (l : List ℕ). Some (get_or l 0 0)) (sym g)
+
+  pub no_byte : result_ok r ≡ None → None ≡ byte c d
+  no_byte e = none (byte c d) (sym (byte_read c d) ∙ ap result_ok (sym read) ∙ e)
+    where
+      none : (o : Option ℕ) → option_map (λ b. b ∷ []) o ≡ None → None ≡ o
+      none None e = refl
+      none (Some x) e = cc
+
+-- bs before what is still to be read
+abbrev pub after : List ℕ → Option (List ℕ) → Option (List ℕ)
+after bs None = None
+after bs (Some ds) = Some (bs ++ ds)
+
+pub after_none : (o : Option (List ℕ)) → o ≡ after [] o
+after_none None = refl
+after_none (Some ds) = refl
+
+after_one : (bs : List ℕ) (x : ℕ) (o : Option (List ℕ)) → after bs (onto (Some x) o) ≡ after (bs ++ x ∷ []) o
+after_one bs x None = refl
+after_one bs x (Some ds) = ap (λ (l : List ℕ). Some l) (sym (append_assoc bs (x ∷ []) ds))
+
+-- what is behind the two characters in front
+abbrev pub behind_two : List ℕ → List ℕ
+behind_two cs = take (length cs - 2) (drop 2 cs)
+
+two_in_front : (cs : List ℕ) → 2 ≤ length cs → cs ≡ get_or cs 0 0 ∷ get_or cs 1 0 ∷ behind_two cs
+two_in_front [] h = absurd (omega arith)
+two_in_front (c ∷ []) h = absurd (omega arith)
+two_in_front (c ∷ d ∷ cs) h = ap (λ (t : List ℕ). c ∷ d ∷ t) (sym (take_all (length (c ∷ d ∷ cs) - 2) cs (omega arith)))
+
+pub still_even : (cs : List ℕ) → 2 ≤ length cs → length cs % 2 ≡ 0 → length (behind_two cs) % 2 ≡ 0
+still_even cs h e = let l = ap length (two_in_front cs h) in omega (arith, l)
+
+-- the two characters in front are read next
+module _ (cs bs rest : List ℕ) (two : 2 ≤ length rest) (so_far : unhex cs ≡ after bs (unhex rest)) where
+  read_next : unhex cs ≡ after bs (onto (byte (get_or rest 0 0) (get_or rest 1 0)) (unhex (behind_two rest)))
+  read_next = so_far ∙ ap (λ (t : List ℕ). after bs (unhex t)) (two_in_front rest two)
+
+  pub after_more : (x : ℕ) → Some x ≡ byte (get_or rest 0 0) (get_or rest 1 0) → unhex cs ≡ after (bs ++ x ∷ []) (unhex (behind_two rest))
+  after_more x e = read_next ∙ ap (λ (o : Option ℕ). after bs (onto o (unhex (behind_two rest)))) (sym e) ∙ after_one bs x (unhex (behind_two rest))
+
+  pub after_broken : None ≡ byte (get_or rest 0 0) (get_or rest 1 0) → None ≡ unhex cs
+  after_broken e = sym (read_next ∙ ap (λ (o : Option ℕ). after bs (onto o (unhex (behind_two rest)))) (sym e))
+
+pub after_all : (cs bs rest : List ℕ) → length rest ≡ 0 → unhex cs ≡ after bs (unhex rest) → Some bs ≡ unhex cs
+after_all cs bs [] e k = sym (k ∙ ap (λ (l : List ℕ). Some l) (append-nil bs))
+after_all cs bs (c ∷ rest) e k = absurd (omega arith)
+
+pub unhex_odd : (cs : List ℕ) → length cs % 2 ≡ 1 → unhex cs ≡ None
 unhex_odd [] h = absurd (omega arith)
 unhex_odd (c ∷ []) h = refl
 unhex_odd (c ∷ d ∷ cs) h = ap (onto (byte c d)) (unhex_odd cs (omega arith)) ∙ onto_none (byte c d)
@@ -43,25 +94,6 @@ unhex_odd (c ∷ d ∷ cs) h = ap (onto (byte c d)) (unhex_odd cs (omega arith))
     onto_none : (o : Option ℕ) → onto o None ≡ None
     onto_none None = refl
     onto_none (Some x) = refl
-
-sized_read : (cs : List ℕ) (n : ℕ) → n ≡ length cs / 2 → MatchResult (decode_sized cs n) (λ bs. unhex cs ≡ Some bs) (λ e. unhex cs ≡ None)
-sized_read cs n h = elim (cases_eq (length cs % 2) 1) [
-  | inl odd ↦ rw (decode_sized-odd cs n odd) (unhex_odd cs odd)
-  | inr even ↦
-      let e : decode_sized cs n ≡ decode_pairs 0 cs = decode_sized-twice cs n (omega arith) ∙ decode_of-even cs (omega arith) in
-      rw e (pairs_read 0 cs)
-]
-
--- what is read into half as many bytes, which x holds
-pub all_read :
-    {X : Type 0} (held : X → List ℕ) (x : X) (cs out : List ℕ) (n : ℕ) (r : Result (Unit {0}) FromHexError) → held x ≡ out → n ≡ length cs / 2
-    → MatchResult (decode_sized cs n) (λ bs. (r ≡ Ok tt) × (out ≡ bs)) (λ e. r ≡ Err e) → option_map held (then_some (is_ok r) x) ≡ unhex cs
-all_read held x cs out n r g h m = both (decode_sized cs n) m (sized_read cs n h)
-  where
-    both : (d : Result (List ℕ) FromHexError) → MatchResult d (λ bs. (r ≡ Ok tt) × (out ≡ bs)) (λ e. r ≡ Err e)
-        → MatchResult d (λ bs. unhex cs ≡ Some bs) (λ e. unhex cs ≡ None) → option_map held (then_some (is_ok r) x) ≡ unhex cs
-    both (Ok bs) m k = rw m.0 (ap (λ (l : List ℕ). Some l) (g ∙ m.1) ∙ sym k)
-    both (Err e) m k = rw m (sym k)
 
 -- the digits by their order in a text
 lower : (n : ℕ) → n < 16 → get_or (codes "0123456789abcdef") n 0 ≡ cond (ltb n 10) (48 + n) (87 + n)

@@ -51,11 +51,10 @@ pub fn line_text(heap: Global, line: &[u8], tally: &mut Tally) -> Result<String,
     ensures law { OneAnswer }
 {
     let bytes = from_hex(heap, line)?;
-    let message = message_in(bytes.as_deref());
-    let text = match &message {
-        Ok(message) => Line(*message).to_string(heap),
-        Err(fault) => fault.to_string(heap),
-    }?;
-    tally.count(message.is_err());
+    let (text, refused) = match message_in(bytes.as_deref()) {
+        Ok(message) => (Line(message).to_string(heap)?, false),
+        Err(fault) => (fault.to_string(heap)?, true),
+    };
+    tally.count(refused);
     Ok(text)
 }

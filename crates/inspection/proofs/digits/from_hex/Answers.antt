@@ -1,18 +1,28 @@
-use Rattle.std.proofs.Common.{◌≡◌, vec_items, ◌∙◌}
-use Rattle.std.specs.Option.{option_map}
-use Rattle.std.specs.Vec.{with_items}
-use Rattle.std.proofs.lemmas.List.{with_items_is}
-use Rattle.inspection.proofs.Bytes.{all_read, read_as}
+use Rattle.std.proofs.Common.{Some, None, vec_items, sym, arith}
+use Rattle.inspection.proofs.Bytes.{unhex_odd, after_none, after_more, after_broken, after_all, still_even, read_as}
 use Rattle.inspection.specs.Spelling.{unhex}
 use Rattle.inspection.proofs.digits.from_hex.Goals as goal
 
+pub returns-then-line-ne0 : goal.returns-then-line-ne0
+returns-then-line-ne0 c =
+    let e = sym (unhex_odd c.args.line.now (omega arith)) in
+    record { value = e; spelled = read_as c.args.line.now None e }
+
+pub loop-rest-init : goal.loop-rest-init
+loop-rest-init c = (rw c.in_ok-bytes.ensures.items (after_none (unhex c.args.line.now)), omega arith)
+
+pub returns-in_default-byte_value : goal.returns-in_default-byte_value
+returns-in_default-byte_value c =
+    let e = after_broken c.args.line.now (vec_items c.loop-rest.bytes) c.loop-rest.rest.now c.in-len2-up.len_at_least c.loop-rest.invariant.0 c.in_default-byte_value.ensures in
+    record { value = e; spelled = read_as c.args.line.now None e }
+
+pub loop-rest-preserved : goal.loop-rest-preserved
+loop-rest-preserved c =
+    let rest = c.loop-rest.rest.now in
+    let more = after_more c.args.line.now (vec_items c.loop-rest.bytes) rest c.in-len2-up.len_at_least c.loop-rest.invariant.0 c.in-Some.byte c.in-Some.ensures in
+    (rw c.in_ok-push.ensures.items more, still_even rest c.in-len2-up.len_at_least c.loop-rest.invariant.1)
+
 pub returns : goal.returns
 returns c =
-    let line = c.args.line.now in
-    let bytes = c.in_ok-bytes.bytes in
-    let out = c.decode_to_slice-read.new.out in
-    let held = with_items_is bytes out (c.decode_to_slice-read.auto.out ∙ c.as_mut_slice.ensures.len) in
-    let value : option_map vec_items c.then_some.result ≡ unhex line =
-    rw (c.then_some.ensures, c.is_ok.ensures.value)
-    (all_read vec_items (with_items bytes out) line out _ c.decode_to_slice-read.result held (c.as_mut_slice.ensures.len ∙ c.in_ok-bytes.ensures.len) c.decode_to_slice-read.ensures.value) in
-    record { value = value; spelled = read_as line _ value }
+    let e = after_all c.args.line.now (vec_items c.loop-rest.bytes) c.loop-rest.rest.now (omega (arith, c.loop-rest.invariant.1)) c.loop-rest.invariant.0 in
+    record { value = e; spelled = read_as c.args.line.now (Some (vec_items c.loop-rest.bytes)) e }
