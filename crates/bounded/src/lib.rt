@@ -133,6 +133,7 @@ impl<T: Blank, const N: usize> Bounded<T, N> {
         }
         let start = self.len;
         let end = start + items.len();
+        // the whole as a slice first: a part of an array of N places is not lent at once
         let places = &mut self.places[..];
         places[start..end].copy_from_slice(items);
         self.len = end;

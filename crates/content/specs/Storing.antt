@@ -22,7 +22,7 @@ Restored s (Ok c) = (restorable s ≡ true) × (body c ≡ stored_body s)
 abbrev pub RestoresStored : Type 0
 RestoresStored = (s : StoredContent) (r : Result Content Unsound) (c : Content) → Restored s r → s ≡ stored c → r ≡ Ok c
 
--- what a restoring answers: the content that says what the numbers say, and of a content's numbers that very content
+-- what a restoring answers: the content that says what the numbers say, or none exactly if they are those of no content; and for a content's numbers that very content
 pub record Restores (s : StoredContent) (r : Result Content Unsound) : Type 0 where
   pub restored : Restored s r
   pub back : (c : Content) → s ≡ stored c → r ≡ Ok c
