@@ -31,16 +31,20 @@ pairs_read c d =
 byte_read : (c d : ℕ) → result_ok (decode_sized (c ∷ d ∷ []) 1) ≡ option_map (λ b. b ∷ []) (byte c d)
 byte_read c d = ap result_ok (decode_sized-twice (c ∷ d ∷ []) 1 refl ∙ decode_of-even (c ∷ d ∷ []) refl) ∙ pairs_read c d
 
+-- so an answer of `hex` about two characters has their byte, if there is one
 module _ (c d : ℕ) (r : Result (List ℕ) FromHexError) (read : r ≡ decode_sized (c ∷ d ∷ []) 1) where
+  as_byte : option_map (λ b. b ∷ []) (byte c d) ≡ result_ok r
+  as_byte = sym (byte_read c d) ∙ ap result_ok (sym read)
+
   pub byte_there : (bs : List ℕ) → result_ok r ≡ Some bs → Some (get_or bs 0 0) ≡ byte c d
-  byte_there bs e = one (byte c d) (sym (byte_read c d) ∙ ap result_ok (sym read) ∙ e)
+  byte_there bs e = one (byte c d) (as_byte ∙ e)
     where
       one : (o : Option ℕ) → option_map (λ b. b ∷ []) o ≡ Some bs → Some (get_or bs 0 0) ≡ o
       one None e = cc
       one (Some x) e = let g : x ∷ [] ≡ bs = cc in ap (λ (l : List ℕ). Some (get_or l 0 0)) (sym g)
 
   pub no_byte : result_ok r ≡ None → None ≡ byte c d
-  no_byte e = none (byte c d) (sym (byte_read c d) ∙ ap result_ok (sym read) ∙ e)
+  no_byte e = none (byte c d) (as_byte ∙ e)
     where
       none : (o : Option ℕ) → option_map (λ b. b ∷ []) o ≡ None → None ≡ o
       none None e = refl
